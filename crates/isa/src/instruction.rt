@@ -41,5 +41,8 @@ pub fn instruction_at(code: &[i32], address: usize) -> Option<Instruction>
     if address + 1 + argument_cells(operand) > code.len() {
         return None;
     }
-    Some(Instruction { op, argument: argument_at(code, address, operand) })
+    Some(Instruction {
+        op,
+        argument: argument_at(code, address, operand),
+    })
 }

@@ -2,6 +2,7 @@
 mod instruction;
 mod opcode;
 mod table;
+
 pub use instruction::Instruction;
 pub use instruction::instruction_at;
 pub use opcode::Opcode;

@@ -11,7 +11,7 @@ pub enum Text {
 pub enum Place {
     Nowhere,
     Line(Text, u32),
-    Address(i32),
+    Address(i64),
     Counter(i32),
 }
 

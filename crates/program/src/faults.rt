@@ -113,7 +113,7 @@ impl Place {
         match self {
             Place::Nowhere => 0,
             Place::Line(_, line) => i64::from(line),
-            Place::Address(address) => i64::from(address),
+            Place::Address(address) => address,
             Place::Counter(pc) => i64::from(pc),
         }
     }

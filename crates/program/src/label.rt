@@ -6,5 +6,5 @@ use crate::section::Section;
 pub struct Label {
     pub name: Name,
     pub section: Section,
-    pub address: usize,
+    pub address: u32,
 }

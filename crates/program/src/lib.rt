@@ -8,6 +8,7 @@ mod label;
 mod name;
 mod naming;
 mod programs;
+mod refused;
 mod section;
 mod unit;
 
@@ -24,5 +25,6 @@ pub use label::Label;
 pub use name::Name;
 pub use naming::is_word;
 pub use naming::small_letter;
+pub use refused::Refused;
 pub use section::Section;
 pub use unit::Unit;

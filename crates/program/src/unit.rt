@@ -4,7 +4,7 @@ use crate::name::Name;
 #[derive(Clone, Copy)]
 pub struct Unit {
     pub name: Name,
-    pub entry: usize,
+    pub entry: u32,
     pub arguments: u8,
     pub results: u8,
 }

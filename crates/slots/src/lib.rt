@@ -1,6 +1,7 @@
 // One bounded list over handed-over slots, for elements of every kind. Its owner learns from `slotsOf` what the
 // slots hold when the list ends: they are the same slots (`lender`), and each call says which of them it wrote.
 mod list;
+
 ghost use Prim.Native.Nat.{ℕ, _+_, _-_, _≤_, _<_};
 ghost use Rattle.slots.specs.Items.{items, room, slotsOf};
 ghost use Rattle.std.specs.Options.{Cases as BySome};

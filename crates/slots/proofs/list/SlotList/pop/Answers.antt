@@ -8,4 +8,5 @@ returns g c =
     record {
       lender = refl;
       slots = refl;
-      items = (take-last (c .args .self .now .slots .now) (c .args .self .now .len) _ (omega arith) (omega arith), omega arith) }
+      items = (take-last (c .args .self .now .slots .now) (c .args .self .now .len) _ (omega arith) (omega arith), omega arith);
+    }

@@ -13,4 +13,5 @@ returns g c =
     record {
       lender = refl;
       items = (take-more-set xs (c .args .self .now .len) (c .args .x) h, rw (length-take-le (c .args .self .now .len) xs (omega arith)) h, length-set xs (c .args .self .now .len) (c .args .x));
-      slots = (refl, refl) }
+      slots = (refl, refl);
+    }

@@ -1,0 +1,5 @@
+mod ports;
+mod reading;
+
+pub use ports::Port;
+pub use reading::Reading;
