@@ -1,8 +1,8 @@
 -- Reading is the inverse of spelling.
-use mathlib.Core.Path.{_≡_, refl, sym, ap, _∙_}
+use mathlib.Core.Path.{_≡_, refl, ap, _∙_}
 use mathlib.Core.Bool.{Bool, true, false}
 use mathlib.Core.List.{List, [], _∷_}
-use Prim.Native.Nat.{ℕ, zero, suc, _+_, _-_, _*_, _^_, _<_, _≤_}
+use Prim.Native.Nat.{ℕ, suc, _-_, _<_, _≤_}
 use native.Mathlib.Omega.{arith}
 use borrow.Author.Needs.{needs}
 use lib.Dec.{eqb}
@@ -10,13 +10,14 @@ use lib.IntN.{ℤ, pos, negsuc, negℤ}
 use lib.ListN.{length}
 use mir.Syntax.{w32}
 use mir.Val.{SFits}
-use Rattle.std.specs.declared.result.Result.the-variants.{Ok}
+use Rattle.std.specs.declared.result.Result.the-variants.{Ok, Err}
 use Rattle.std.specs.Written.{decimal, signed}
 use Rattle.std.proofs.shelf.Decimals.{decimal-some, digits-decimal, value-decimal}
 use Rattle.std.proofs.shelf.Numerals.{Numerals, numerals-by-fold}
 use Rattle.std.proofs.shelf.Signed.{ints}
 use Rattle.std.proofs.shelf.Ways.{tells}
-use Rattle.decimal.specs.Numbers.{digit, onlyDigits, areDigits, natural, cellRange, isNumeral, numeral}
+use Rattle.decimal.specs.declared.reading.NumberError.the-variants.{NoNumber}
+use Rattle.decimal.specs.Numbers.{digit, onlyDigits, natural, cellRange, isNumeral, numeral}
 use Rattle.decimal.specs.Reading.{readAs}
 
 own : Numerals (λ ds. onlyDigits ds ≡ true) (natural 0)
@@ -60,3 +61,17 @@ cell-range z f = grind (arith, ints, tells)
 
 pub read-held : (z : ℤ) → SFits w32 z → readAs (signed z) ≡ Ok z
 read-held z f = read-signed z (cell-range z f)
+
+-- what reads as a number is a numeral
+numeral-from-read : (t : List ℕ) (z : ℤ) → readAs t ≡ Ok z → isNumeral t ≡ true
+numeral-from-read t z e = go (isNumeral t) refl
+  where
+    go : (b : Bool) → isNumeral t ≡ b → isNumeral t ≡ true
+    go true i = i
+    go false i =
+        let r : readAs t ≡ Err NoNumber = rw (i, readAs) refl in
+        let o : _≡_ {A = ℕ} 0 1 = cc in
+        absurd (omega arith)
+
+pub numeral-signed : (z : ℤ) → SFits w32 z → isNumeral (signed z) ≡ true
+numeral-signed z f = numeral-from-read (signed z) z (read-held z f)

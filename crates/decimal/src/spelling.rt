@@ -1,5 +1,5 @@
 ghost use mathlib.Core.Path.{_≡_};
-ghost use Prim.Native.Nat.{ℕ, _<_, _≤_, _^_};
+ghost use Prim.Native.Nat.{_<_, _≤_, _^_};
 ghost use Rattle.std.specs.Written.{signed, decimal};
 ghost use Rattle.decimal.specs.Numerals.{textOf};
 use crate::numeral::Numeral;

@@ -16,4 +16,4 @@ module _ {T : Type 0} where
 
   -- how many elements it can hold
   abbrev pub room : SlotList T → ℕ
-  room l = length (slotsOf l)
+  room l = l .room

@@ -2,10 +2,12 @@ ghost use Prim.Native.Nat.{_≤_};
 ghost use denote.Ref.{now};
 ghost use lib.ListN.{length};
 
-// A list of at most as many elements as the slots that were handed over for it.
+// A list of at most `room` elements over slots that were handed over for it.
 #[derive(Drop)]
 pub struct SlotList<'a, T> {
     pub(crate) slots: &'a mut [T],
+    pub(crate) room: usize,
     pub(crate) len: usize,
-    ghost within: { len ≤ length (now slots) },
+    ghost within: { len ≤ room },
+    ghost slotted: { room ≤ length (now slots) },
 }

@@ -1,4 +1,4 @@
-use mathlib.Core.Path.{_≡_, refl, sym, ap, _∙_}
+use mathlib.Core.Path.{sym, _∙_}
 use native.Mathlib.Omega.{arith}
 use Rattle.decimal.proofs.Figures.{only-more, only-no, only-all, digits-some}
 use Rattle.decimal.proofs.reading.are_digits.Needs as need

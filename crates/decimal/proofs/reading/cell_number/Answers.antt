@@ -1,5 +1,5 @@
 use native.Mathlib.Omega.{arith}
-use borrow.Author.Tests.{ltb-true, ltb-false}
+use borrow.Author.Tests.{ltb-false}
 use Rattle.std.proofs.shelf.Lists.{take-rest}
 use Rattle.decimal.proofs.Figures.{minus-read}
 use Rattle.decimal.proofs.reading.cell_number.Needs as need

@@ -1,6 +1,6 @@
-use mathlib.Core.Path.{_≡_, sym, _∙_}
+use mathlib.Core.Path.{sym, _∙_}
 use native.Mathlib.Omega.{arith}
-use borrow.Author.Tests.{ltb-true, ltb-false}
+use borrow.Author.Tests.{ltb-false}
 use Rattle.std.proofs.shelf.Lists.{take-rest}
 use Rattle.decimal.proofs.Figures.{minus-numeral}
 use Rattle.decimal.proofs.reading.is_numeral.Needs as need

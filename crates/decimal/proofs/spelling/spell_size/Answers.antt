@@ -1,4 +1,3 @@
-use borrow.Author.Needs.{needs}
 use native.Mathlib.Omega.{arith}
 use Rattle.decimal.proofs.Spellings.{low, more, last}
 use Rattle.decimal.proofs.spelling.spell_size.Needs as need

@@ -12,12 +12,14 @@ loop-i-again g c =
       length-set xs (c .loop-i .i) (c .args .value) ∙ c .loop-i .inv .1,
       c .loop-i .inv .2,
       c .loop-i .inv .3,
+      c .loop-i .inv .4,
     )
 
 pub returns : need.returns
 returns g c =
     record {
-      lender = c .loop-i .inv .3;
+      lender = c .loop-i .inv .4;
       len = c .loop-i .inv .2;
+      room = c .loop-i .inv .3;
       slots = filled-all (c .loop-i .self .slots .now) (c .loop-i .i) (length (c .args .self .now .slots .now)) (c .args .value) (c .loop-i .inv .1) (omega arith) (omega arith) (c .loop-i .inv .0);
     }

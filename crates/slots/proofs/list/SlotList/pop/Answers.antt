@@ -7,6 +7,7 @@ pub returns : need.returns
 returns g c =
     record {
       lender = refl;
+      room = refl;
       slots = refl;
       items = (take-last (c .args .self .now .slots .now) (c .args .self .now .len) _ (omega arith) (omega arith), omega arith);
     }

@@ -12,6 +12,6 @@ returns g c =
     let h : c .args .self .now .len < length xs = omega arith in
     record {
       lender = refl;
-      items = (take-more-set xs (c .args .self .now .len) (c .args .x) h, rw (length-take-le (c .args .self .now .len) xs (omega arith)) h, length-set xs (c .args .self .now .len) (c .args .x));
+      items = (take-more-set xs (c .args .self .now .len) (c .args .x) h, rw (length-take-le (c .args .self .now .len) xs (omega arith)) (omega arith), refl);
       slots = (refl, refl);
     }

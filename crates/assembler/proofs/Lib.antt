@@ -1,0 +1,10 @@
+pub mod Adding
+pub mod Clips
+pub mod Laying
+pub mod Taking
+pub mod Surveys
+pub mod Leaving
+pub mod Passes
+pub mod Searches
+pub mod Sizes
+pub mod Written

@@ -1,0 +1,10 @@
+pub mod Bytes
+pub mod Cells
+pub mod Forms
+pub mod Kinds
+pub mod Limits
+pub mod Lines
+pub mod Meant
+pub mod Ranges
+pub mod Stated
+pub mod Tokens
