@@ -3,7 +3,7 @@ use mathlib.Core.Path.{_≡_}
 use mathlib.Core.List.{List}
 use Prim.Native.Nat.{ℕ, _≤_}
 use lib.IntN.{ℤ}
-use lib.ListN.{length}
+use lib.ListN.{length, take}
 use Rattle.std.specs.declared.result.Result.{Result}
 use Rattle.std.specs.declared.result.Result.the-variants.{Ok, Err}
 use Rattle.program.specs.declared.fault.Fault.{Fault}
@@ -37,14 +37,15 @@ rerun (Faulted f) lay allowance c w = ran 0 (V.Fault f) c w
 
 module _ (allowance : ℕ) (before after : Machine) (memory memory′ : List ℤ) (port port′ : Meaning) where
   -- a run over a memory of the program's length: steps, outcome, registers, mark, cells, readings, bytes and space
-  -- are those of the machine, and openings do not fall
-  pub record Done (a : Report) : Type 0 where
+  -- are those of the machine, openings do not fall, and no cell of the code changes
+  pub record Done (steps : ℕ) (outcome : Outcome) : Type 0 where
     pub long : length memory ≡ before .cells
     pub layout : after .layout ≡ before .layout
     pub cells : after .cells ≡ before .cells
-    pub runs : ran (a .steps) (a .outcome) (core (after .registers) memory′) (console port′) ≡ rerun (before .status) (before .layout) allowance (core (before .registers) memory) (console port)
-    pub status : after .status ≡ marked (a .outcome)
+    pub runs : ran steps outcome (core (after .registers) memory′) (console port′) ≡ rerun (before .status) (before .layout) allowance (core (before .registers) memory) (console port)
+    pub status : after .status ≡ marked outcome
     pub openings : port .openings ≤ port′ .openings
+    pub code : take (before .layout .code) memory′ ≡ take (before .layout .code) memory
 
   -- refusal 21: the memory has another length, and nothing changes
   pub record Unfit (f : Fault) : Type 0 where
@@ -59,5 +60,5 @@ module _ (allowance : ℕ) (before after : Machine) (memory memory′ : List ℤ
 
   -- what a call of run answers
   abbrev pub Answered : Result Report Fault → Type 0
-  Answered (Ok a) = Done a
+  Answered (Ok a) = Done (a .steps) (a .outcome)
   Answered (Err f) = Unfit f
