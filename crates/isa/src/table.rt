@@ -2,63 +2,12 @@
 ghost use Rattle.isa.specs.Table.{argumentCells, decoded, number, operand, size, mnemonic, mnemonics, named, placed, texts};
 ghost use Rattle.program.specs.Names.{smalls};
 ghost use Rattle.std.specs.declared.option.Option.the-variants.{Some, None};
+ghost use Prim.Native.Nat.{_≤_};
 ghost use lib.IntN.{ℤ, pos};
 ghost use mathlib.Core.Path.{_≡_};
 use crate::opcode::Opcode;
 use crate::opcode::Operand;
 use program::is_word;
-
-static ORDER: [Opcode; 49] = [
-    Opcode::Push,
-    Opcode::Add,
-    Opcode::Sub,
-    Opcode::Mul,
-    Opcode::Div,
-    Opcode::Mod,
-    Opcode::Neg,
-    Opcode::And,
-    Opcode::Or,
-    Opcode::Not,
-    Opcode::Eq,
-    Opcode::Ne,
-    Opcode::Lt,
-    Opcode::Gt,
-    Opcode::Le,
-    Opcode::Ge,
-    Opcode::Dup,
-    Opcode::Pop,
-    Opcode::Swap,
-    Opcode::Jump,
-    Opcode::Bf,
-    Opcode::Bt,
-    Opcode::Nop,
-    Opcode::Read,
-    Opcode::Bprint,
-    Opcode::Cprint,
-    Opcode::Iprint,
-    Opcode::Sprint,
-    Opcode::Prnln,
-    Opcode::Load,
-    Opcode::Store,
-    Opcode::Loadref,
-    Opcode::Storeref,
-    Opcode::Deref,
-    Opcode::Call,
-    Opcode::Loadfp,
-    Opcode::Loadsp,
-    Opcode::Storefp,
-    Opcode::Rmem,
-    Opcode::Fmem,
-    Opcode::Ret,
-    Opcode::Halt,
-    Opcode::Loadpc,
-    Opcode::Storepc,
-    Opcode::Storesp,
-    Opcode::Loadhp,
-    Opcode::Storehp,
-    Opcode::Loadhl,
-    Opcode::Storehl,
-];
 
 static MNEMONICS: [&[u8]; 49] = [
     b"push",
@@ -112,6 +61,82 @@ static MNEMONICS: [&[u8]; 49] = [
     b"storehl",
 ];
 
+// The opcodes 1 to 17.
+fn low_opcode(place: usize) -> Opcode
+    requires { ⌜ 1 ≤ place ⌝ ∗ ⌜ place ≤ 17 ⌝ }
+    ensures { λ r. ⌜ Some r ≡ decoded (pos place) ⌝ }
+{
+    match place {
+        1 => Opcode::Push,
+        2 => Opcode::Add,
+        3 => Opcode::Sub,
+        4 => Opcode::Mul,
+        5 => Opcode::Div,
+        6 => Opcode::Mod,
+        7 => Opcode::Neg,
+        8 => Opcode::And,
+        9 => Opcode::Or,
+        10 => Opcode::Not,
+        11 => Opcode::Eq,
+        12 => Opcode::Ne,
+        13 => Opcode::Lt,
+        14 => Opcode::Gt,
+        15 => Opcode::Le,
+        16 => Opcode::Ge,
+        _ => Opcode::Dup,
+    }
+}
+
+// The opcodes 18 to 33.
+fn middle_opcode(place: usize) -> Opcode
+    requires { ⌜ 18 ≤ place ⌝ ∗ ⌜ place ≤ 33 ⌝ }
+    ensures { λ r. ⌜ Some r ≡ decoded (pos place) ⌝ }
+{
+    match place {
+        18 => Opcode::Pop,
+        19 => Opcode::Swap,
+        20 => Opcode::Jump,
+        21 => Opcode::Bf,
+        22 => Opcode::Bt,
+        23 => Opcode::Nop,
+        24 => Opcode::Read,
+        25 => Opcode::Bprint,
+        26 => Opcode::Cprint,
+        27 => Opcode::Iprint,
+        28 => Opcode::Sprint,
+        29 => Opcode::Prnln,
+        30 => Opcode::Load,
+        31 => Opcode::Store,
+        32 => Opcode::Loadref,
+        _ => Opcode::Storeref,
+    }
+}
+
+// The opcodes 34 to 49.
+fn high_opcode(place: usize) -> Opcode
+    requires { ⌜ 34 ≤ place ⌝ ∗ ⌜ place ≤ 49 ⌝ }
+    ensures { λ r. ⌜ Some r ≡ decoded (pos place) ⌝ }
+{
+    match place {
+        34 => Opcode::Deref,
+        35 => Opcode::Call,
+        36 => Opcode::Loadfp,
+        37 => Opcode::Loadsp,
+        38 => Opcode::Storefp,
+        39 => Opcode::Rmem,
+        40 => Opcode::Fmem,
+        41 => Opcode::Ret,
+        42 => Opcode::Halt,
+        43 => Opcode::Loadpc,
+        44 => Opcode::Storepc,
+        45 => Opcode::Storesp,
+        46 => Opcode::Loadhp,
+        47 => Opcode::Storehp,
+        48 => Opcode::Loadhl,
+        _ => Opcode::Storehl,
+    }
+}
+
 // The opcode at a place of the table, counted from 1.
 fn opcode_at(place: usize) -> Option<Opcode>
     ensures { λ r. ⌜ r ≡ decoded (pos place) ⌝ }
@@ -122,7 +147,13 @@ fn opcode_at(place: usize) -> Option<Opcode>
     if place > 49 {
         return None;
     }
-    Some(ORDER[place - 1])
+    if place <= 17 {
+        Some(low_opcode(place))
+    } else if place <= 33 {
+        Some(middle_opcode(place))
+    } else {
+        Some(high_opcode(place))
+    }
 }
 
 // The opcode that a cell holds.

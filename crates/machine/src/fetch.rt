@@ -1,10 +1,12 @@
-ghost use Prim.Native.Nat.{_≤_};
-ghost use Rattle.machine.specs.Fetch.{fetched};
+ghost use Prim.Native.Nat.{_<_, _≤_};
+ghost use Rattle.isa.specs.Code.{instruction};
+ghost use Rattle.machine.specs.Fetch.{fetched, followed, longer};
 ghost use lib.ListN.{length, take};
 ghost use mathlib.Core.Path.{_≡_};
 use isa::Opcode;
-use isa::instruction_at;
-use isa::length_of;
+use isa::Operand;
+use isa::decode;
+use isa::operand_of;
 
 // The instruction at pc: its opcode, its argument cell or 0, and the address after it.
 #[derive(Clone, Copy)]
@@ -14,6 +16,35 @@ pub struct Fetched {
     pub next: i32,
 }
 
+// An instruction with its argument in the next cell, if that is code too.
+fn argued(code: &[i32], at: usize, op: Opcode) -> Option<Fetched>
+    requires { ⌜ at < length (now code) ⌝ ∗ ⌜ length (now code) ≤ 65536 ⌝ }
+    ensures { λ r. ⌜ r ≡ longer (now (code .entry)) at op ⌝ }
+{
+    if at + 1 >= code.len() {
+        return None;
+    }
+    Some(Fetched { op, argument: code[at + 1], next: at as i32 + 2 })
+}
+
+// The two lengths go their own ways, so that the next pc does not wait for what the opcode takes.
+fn fetch_at(code: &[i32], at: usize) -> Option<Fetched>
+    requires { ⌜ length (now code) ≤ 65536 ⌝ }
+    ensures { λ r. ⌜ r ≡ followed at (instruction (now (code .entry)) at) ⌝ }
+{
+    if at >= code.len() {
+        return None;
+    }
+    let op = decode(code[at])?;
+    match operand_of(op) {
+        Operand::Absent => Some(Fetched { op, argument: 0, next: at as i32 + 1 }),
+        Operand::Value => argued(code, at, op),
+        Operand::Target => argued(code, at, op),
+        Operand::Count => argued(code, at, op),
+        Operand::Number => argued(code, at, op),
+    }
+}
+
 fn fetch_in(code: &[i32], pc: i32) -> Option<Fetched>
     requires { ⌜ length (now code) ≤ 65536 ⌝ }
     ensures { λ r. ⌜ r ≡ fetched (now (code .entry)) pc ⌝ }
@@ -21,14 +52,7 @@ fn fetch_in(code: &[i32], pc: i32) -> Option<Fetched>
     if pc < 0 {
         return None;
     }
-    let at = pc as usize;
-    let instruction = instruction_at(code, at)?;
-    let next = at + length_of(instruction.op);
-    Some(Fetched {
-        op: instruction.op,
-        argument: instruction.argument,
-        next: next as i32,
-    })
+    fetch_at(code, pc as usize)
 }
 
 // The instruction at pc, if it stands whole within the first cells of memory, which are code.

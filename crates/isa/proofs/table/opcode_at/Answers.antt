@@ -1,11 +1,7 @@
 use native.Mathlib.Omega.{arith}
-use Rattle.isa.specs.declared.opcode.Opcode.the-variants.{Push}
 use Rattle.isa.specs.Table.{order}
-use Rattle.isa.proofs.Picking.{picked-high, picked-at}
+use Rattle.isa.proofs.Picking.{picked-high}
 use Rattle.isa.proofs.table.opcode_at.Needs as need
 
 pub returns-then-place-gt49 : need.returns-then-place-gt49
 returns-then-place-gt49 c = picked-high order (c .args .place) (omega arith)
-
-pub returns : need.returns
-returns c = picked-at order (c .args .place) Push (omega arith) (omega arith)

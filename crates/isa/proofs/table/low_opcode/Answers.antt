@@ -1,0 +1,10 @@
+use mathlib.Core.Path.{_≡_, sym, ap}
+use native.Mathlib.Omega.{arith}
+use lib.IntN.{pos}
+use Rattle.isa.specs.Table.{decoded}
+use Rattle.isa.proofs.table.low_opcode.Needs as need
+
+pub returns-in-rest : need.returns-in-rest
+returns-in-rest c =
+    let e : c .args .place ≡ 17 = omega arith in
+    sym (ap (λ n. decoded (pos n)) e)
