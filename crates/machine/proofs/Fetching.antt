@@ -24,7 +24,7 @@ follow-cond true a i = refl
 follow-cond false a i = refl
 
 -- what stands at an address, by what its opcode takes
-pub at-operand : (code : List ℤ) (a : ℕ) (op : Opcode) (o : Operand) → decoded (getD code a (pos 0)) ≡ Some op → a < length code → operand op ≡ o
+at-operand : (code : List ℤ) (a : ℕ) (op : Opcode) (o : Operand) → decoded (getD code a (pos 0)) ≡ Some op → a < length code → operand op ≡ o
   → followed a (instruction code a) ≡ cond (leb (a + 1 + argumentCells o) (length code)) (Some (record { op = op; argument = argument o code a; next = pos (a + suc (argumentCells o)) })) None
 at-operand code a op o d h e =
     ap (λ b. followed a (cond b (whole code a (decoded (getD code a (pos 0)))) None)) (lt-ltb a (length code) h)
@@ -32,9 +32,27 @@ at-operand code a op o d h e =
     ∙ follow-cond (leb (a + 1 + argumentCells (operand op)) (length code)) a (record { op = op; argument = argument (operand op) code a })
     ∙ ap (λ x. cond (leb (a + 1 + argumentCells x) (length code)) (Some (record { op = op; argument = argument x code a; next = pos (a + suc (argumentCells x)) })) None) e
 
--- an instruction of one cell
-pub at-absent : (code : List ℤ) (a : ℕ) (op : Opcode) → decoded (getD code a (pos 0)) ≡ Some op → a < length code → operand op ≡ Absent
-  → followed a (instruction code a) ≡ Some (record { op = op; argument = pos 0; next = pos (a + 1) })
-at-absent code a op d h e =
-    at-operand code a op Absent d h e
-    ∙ ap (λ b. cond b (Some (record { op = op; argument = pos 0; next = pos (a + 1) })) None) (le-leb (a + 1 + 0) (length code) (omega arith))
+module _ (code : List ℤ) (a : ℕ) (op : Opcode) (d : decoded (getD code a (pos 0)) ≡ Some op) (h : a < length code) where
+  -- an instruction of one cell
+  pub at-short : size op ≡ 1 → followed a (instruction code a) ≡ Some (record { op = op; argument = pos 0; next = pos (a + 1) })
+  at-short e = go (operand op) refl e
+    where
+      go : (o : Operand) → operand op ≡ o → suc (argumentCells o) ≡ 1 → followed a (instruction code a) ≡ Some (record { op = op; argument = pos 0; next = pos (a + 1) })
+      go Absent q f =
+          at-operand code a op Absent d h q
+          ∙ ap (λ b. cond b (Some (record { op = op; argument = pos 0; next = pos (a + 1) })) None) (le-leb (a + 1 + 0) (length code) (omega arith))
+      go Value q f = absurd (omega arith)
+      go Target q f = absurd (omega arith)
+      go Count q f = absurd (omega arith)
+      go Number q f = absurd (omega arith)
+
+  -- an instruction of two cells
+  pub at-long : (size op ≡ 1 → ⊥) → followed a (instruction code a) ≡ longer code a op
+  at-long e = go (operand op) refl e
+    where
+      go : (o : Operand) → operand op ≡ o → (suc (argumentCells o) ≡ 1 → ⊥) → followed a (instruction code a) ≡ longer code a op
+      go Absent q f = absurd (f refl)
+      go Value q f = at-operand code a op Value d h q
+      go Target q f = at-operand code a op Target d h q
+      go Count q f = at-operand code a op Count d h q
+      go Number q f = at-operand code a op Number d h q

@@ -4,9 +4,8 @@ ghost use Rattle.machine.specs.Fetch.{fetched, followed, longer};
 ghost use lib.ListN.{length, take};
 ghost use mathlib.Core.Path.{_≡_};
 use isa::Opcode;
-use isa::Operand;
 use isa::decode;
-use isa::operand_of;
+use isa::length_of;
 
 // The instruction at pc: its opcode, its argument cell or 0, and the address after it.
 #[derive(Clone, Copy)]
@@ -36,12 +35,10 @@ fn fetch_at(code: &[i32], at: usize) -> Option<Fetched>
         return None;
     }
     let op = decode(code[at])?;
-    match operand_of(op) {
-        Operand::Absent => Some(Fetched { op, argument: 0, next: at as i32 + 1 }),
-        Operand::Value => argued(code, at, op),
-        Operand::Target => argued(code, at, op),
-        Operand::Count => argued(code, at, op),
-        Operand::Number => argued(code, at, op),
+    if length_of(op) == 1 {
+        Some(Fetched { op, argument: 0, next: at as i32 + 1 })
+    } else {
+        argued(code, at, op)
     }
 }
 
