@@ -25,7 +25,7 @@ follow-cond false a i = refl
 
 -- what stands at an address, by what its opcode takes
 at-operand : (code : List ℤ) (a : ℕ) (op : Opcode) (o : Operand) → decoded (getD code a (pos 0)) ≡ Some op → a < length code → operand op ≡ o
-  → followed a (instruction code a) ≡ cond (leb (a + 1 + argumentCells o) (length code)) (Some (record { op = op; argument = argument o code a; next = pos (a + suc (argumentCells o)) })) None
+    → followed a (instruction code a) ≡ cond (leb (a + 1 + argumentCells o) (length code)) (Some (record { op = op; argument = argument o code a; next = pos (a + suc (argumentCells o)) })) None
 at-operand code a op o d h e =
     ap (λ b. followed a (cond b (whole code a (decoded (getD code a (pos 0)))) None)) (lt-ltb a (length code) h)
     ∙ ap (λ x. followed a (whole code a x)) d

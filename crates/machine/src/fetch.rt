@@ -23,7 +23,11 @@ fn argued(code: &[i32], at: usize, op: Opcode) -> Option<Fetched>
     if at + 1 >= code.len() {
         return None;
     }
-    Some(Fetched { op, argument: code[at + 1], next: at as i32 + 2 })
+    Some(Fetched {
+        op,
+        argument: code[at + 1],
+        next: at as i32 + 2,
+    })
 }
 
 // The two lengths go their own ways, so that the next pc does not wait for what the opcode takes.
@@ -36,7 +40,11 @@ fn fetch_at(code: &[i32], at: usize) -> Option<Fetched>
     }
     let op = decode(code[at])?;
     if length_of(op) == 1 {
-        Some(Fetched { op, argument: 0, next: at as i32 + 1 })
+        Some(Fetched {
+            op,
+            argument: 0,
+            next: at as i32 + 1,
+        })
     } else {
         argued(code, at, op)
     }

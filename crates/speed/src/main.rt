@@ -18,7 +18,12 @@ use std::fs;
 const CELLS: usize = 4096;
 
 // Runs on while the port is emptied, up to so many turns; answers the steps and the bytes that were shown.
-fn run_on(machine: &mut Machine, memory: &mut [i32], port: &mut BoardPort, steps: u32) -> (u32, usize) {
+fn run_on(
+    machine: &mut Machine,
+    memory: &mut [i32],
+    port: &mut BoardPort,
+    steps: u32,
+) -> (u32, usize) {
     let mut left = steps;
     let mut bytes: usize = 0;
     for _turn in 0..steps {
@@ -36,7 +41,13 @@ fn run_on(machine: &mut Machine, memory: &mut [i32], port: &mut BoardPort, steps
 }
 
 fn print_cells(rt: &LibcRuntime, counts: Counts, memory: &[i32]) -> Result<(), AnyError> {
-    let Counts { cells, code, data, heap, .. } = counts;
+    let Counts {
+        cells,
+        code,
+        data,
+        heap,
+        ..
+    } = counts;
     println!(rt, "{cells} {code} {data} {heap}")?;
     for cell in memory {
         println!(rt, "{cell}")?;

@@ -1,0 +1,4 @@
+pub mod Assemblies
+pub mod Cutting
+pub mod Offering
+pub mod Wording

@@ -1,0 +1,4 @@
+pub mod Bench
+pub mod Input
+pub mod Output
+pub mod Trial
