@@ -125,7 +125,7 @@ module _ (l u : ℕ) where
       let n = length (cells (copies w k z)) in
       demanded (not (isCode (s .tally .section))) WrongSection (putting l u s w n) t e (λ e₁. counted-put (s .tally) (t .tally) (copies w k z) (put-tally s w n t e₁) refl)
 
-  step-counts : (s : Survey) (f : Form) (t : Survey) → step l u s f ≡ go t → Counted (s .tally) (t .tally) f
+  pub step-counts : (s : Survey) (f : Form) (t : Survey) → step l u s f ≡ go t → Counted (s .tally) (t .tally) f
   step-counts s f t e = demanded (range f) NumberRange (taken l u s f) t e (taken-counts s f t)
 
   -- lines add their cells to the sections that they are in

@@ -3,12 +3,25 @@ mod turns;
 
 ghost use Prim.Native.Nat.{_+_};
 ghost use Rattle.turns.specs.Both.{Answered};
+ghost use mathlib.Core.Path.{_≡_};
 use machine::Machine;
 use machine::Outcome;
+use machine::Report;
 use machine::run;
 use port::Port;
 use program::Fault;
 pub use turns::Turns;
+
+// The steps of both turns, and why the second one ended.
+fn together(report: Report, more: Report) -> Turns
+    ensures steps { λ r. ⌜ r .steps ≡ report .steps + more .steps ⌝ }
+    ensures outcome { λ r. ⌜ r .outcome ≡ more .outcome ⌝ }
+{
+    Turns {
+        steps: u64::from(report.steps) + u64::from(more.steps),
+        outcome: more.outcome,
+    }
+}
 
 // Two turns, of which the second comes only where the allowance of the first was spent: together they are the run
 // with both allowances.
@@ -25,10 +38,7 @@ pub fn run_turns<P: Port>(
     match report.outcome {
         Outcome::Spent => {
             let more = run(machine, memory, port, second)?;
-            Ok(Turns {
-                steps: u64::from(report.steps) + u64::from(more.steps),
-                outcome: more.outcome,
-            })
+            Ok(together(report, more))
         }
         _ => Ok(Turns {
             steps: u64::from(report.steps),

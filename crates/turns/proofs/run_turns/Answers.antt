@@ -11,8 +11,8 @@ returns-in-Continue-more g c =
     let m = c .in-Continue-more .more in
     let a = c .args .first in
     let b = c .args .second in
-    let s : r .steps + m .steps ≡ c .from .result + c .from-in-Spent .result = omega (arith, c .from .ensures, c .from-in-Spent .ensures) in
-    done-as (a + b) _ _ _ _ _ _ (r .steps + m .steps) (c .from .result + c .from-in-Spent .result) (m .outcome) (m .outcome) s refl
+    let t = c .together in
+    done-as (a + b) _ _ _ _ _ _ (r .steps + m .steps) (t .result .steps) (m .outcome) (t .result .outcome) (sym (t .ensures .steps)) (sym (t .ensures .outcome))
     (both-done a b _ _ _ _ _ _ (r .steps) _ _ _ (m .steps) (m .outcome)
     (done-as a _ _ _ _ _ _ (r .steps) (r .steps) (r .outcome) Spent refl (c .in-Spent .is) (c .in-Continue-report .ensures tt))
     (c .in-Continue-more .ensures tt))
@@ -22,5 +22,5 @@ returns-in-rest g c =
     let r = c .in-Continue-report .report in
     let a = c .args .first in
     let b = c .args .second in
-    done-as (a + b) _ _ _ _ _ _ (r .steps) (c .from-in-rest .result) (r .outcome) (r .outcome) (sym (c .from-in-rest .ensures)) refl
+    done-as (a + b) _ _ _ _ _ _ (r .steps) (c .from .result) (r .outcome) (r .outcome) (sym (c .from .ensures)) refl
     (one-done a b _ _ _ _ _ _ (r .steps) (r .outcome) (c .in-rest .not-Spent) (c .in-Continue-report .ensures tt))

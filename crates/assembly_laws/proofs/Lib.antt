@@ -1,0 +1,5 @@
+pub mod Dividing
+pub mod Fitting
+pub mod Placing
+pub mod Repeating
+pub mod Sounding
