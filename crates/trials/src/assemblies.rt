@@ -282,12 +282,14 @@ fn write_units(out: &mut String, units: &[Unit]) -> Result<(), AnyError> {
 
 // Writes the cells of a memory without the zeros at its end.
 fn write_cells(out: &mut String, memory: &[i32]) -> Result<(), AnyError> {
-    let mut used = memory;
-    while let [front @ .., 0] = used {
-        used = front;
+    let mut used = 0;
+    for (address, cell) in memory.iter().enumerate() {
+        if *cell != 0 {
+            used = address + 1;
+        }
     }
     out.push_str("; cells")?;
-    for cell in used {
+    for cell in memory.iter().take(used) {
         write!(out, " {cell}")?;
     }
     Ok(())

@@ -475,7 +475,7 @@ fn write_act<P: Port>(
         Act::Clear => {
             write_shown(out, port)?;
             port.clear();
-            String::from_str(heap, " and is cleared")?
+            String::from_str(heap, "and is cleared")?
         }
         Act::Poke(address, value) => {
             if let Some(cell) = memory.get_mut(address) {
