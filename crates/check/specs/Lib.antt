@@ -1,2 +1,0 @@
-pub mod Work
-pub mod Verdict
