@@ -1,3 +1,5 @@
+#![tactic(auto)]
+
 // What the arithmetic, logic and comparison instructions make of cells, which are signed 32-bit numbers.
 mod operation;
 

@@ -1,3 +1,5 @@
+#![tactic(auto)]
+
 // The assembler: two texts of CEIASM become the cells of a program, its labels and its units.
 mod assembling;
 mod building;

@@ -1,3 +1,5 @@
+#![tactic(auto)]
+
 // Laws of assembly: what holds of every program that two texts give.
 mod lawful;
 mod twice;

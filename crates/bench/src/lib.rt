@@ -1,3 +1,5 @@
+#![tactic(auto)]
+
 // The bench: one program assembled and run once, and what happened as the bytes of a report.
 mod input;
 mod readings;

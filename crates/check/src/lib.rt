@@ -1,3 +1,5 @@
+#![tactic(auto)]
+
 // The check: accepts a program exactly when a lawful plan for it exists, and leaves the least one in the plan table.
 // The start: a passed program becomes a live machine.
 mod checking;

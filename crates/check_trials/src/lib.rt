@@ -1,3 +1,5 @@
+#![tactic(auto)]
+
 // Programs that the check passes, and programs that it refuses.
 #[cfg(test)]
 mod tests;

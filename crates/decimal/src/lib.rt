@@ -1,3 +1,5 @@
+#![tactic(auto)]
+
 // The decimal text of a signed 32-bit number, and the number that such a text writes.
 mod numeral;
 mod reading;

@@ -1,3 +1,5 @@
+#![tactic(auto)]
+
 // The bench program: prints what the bench reports of a file, or of standard input.
 use std::io::{Read, Write};
 use std::{env, fs, io};

@@ -1,3 +1,5 @@
+#![tactic(auto)]
+
 // The 49 instructions of the CEIVM, but for what they ask of the port.
 mod control;
 mod dispatch;

@@ -1,3 +1,5 @@
+#![tactic(auto)]
+
 // The instruction set of the CEIVM: opcodes, mnemonics, arguments, and the instruction at an address.
 mod instruction;
 mod opcode;

@@ -1,3 +1,5 @@
+#![tactic(auto)]
+
 // The CEIVM: one step, a run with an allowance over any port, and the start of a program on the bench.
 mod fetch;
 mod outcome;

@@ -1,3 +1,5 @@
+#![tactic(auto)]
+
 // Lawful plans: what a plan of a program is, and the rule of each instruction at a place.
 mod kind;
 mod planned;

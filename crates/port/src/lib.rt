@@ -1,3 +1,5 @@
+#![tactic(auto)]
+
 // Ports of the gate controller: readings come in, bytes go out.
 mod board;
 mod board_port;

@@ -1,3 +1,5 @@
+#![tactic(auto)]
+
 // What every layer of the gate controller names: faults, counts, names, records of labels and units, and the
 // assembled program.
 mod assembled;

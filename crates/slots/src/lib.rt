@@ -1,3 +1,5 @@
+#![tactic(auto)]
+
 // One bounded list over handed-over slots, for elements of every kind. Its owner learns from `slots_of` what the
 // slots hold when the list ends: they are the same slots (`lender`), and each call says which of them it wrote.
 mod list;

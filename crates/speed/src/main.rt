@@ -1,3 +1,5 @@
+#![tactic(auto)]
+
 // Runs a site text for a number of steps, for measurements: `speed run FILE STEPS` prints the steps, pc and how many
 // bytes were shown, and `speed cells FILE` prints the counts and cells that another interpreter can run.
 use assembler::assemble;

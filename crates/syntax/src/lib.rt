@@ -1,3 +1,5 @@
+#![tactic(auto)]
+
 // One line of CEIASM: from bytes to a statement.
 mod bytes;
 mod extents;

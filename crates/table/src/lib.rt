@@ -1,3 +1,5 @@
+#![tactic(auto)]
+
 // The proved table of examples.
 ghost use Rattle.std.specs.List.{AllByRecursion as All};
 ghost use Rattle.table.specs.Examples.{examples};

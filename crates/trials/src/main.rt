@@ -1,3 +1,5 @@
+#![tactic(auto)]
+
 // Trials: texts, sizes, runs, lengths, ports, reports, sums and the examples, and what each gave, one line a trial.
 mod assemblies;
 mod examples;

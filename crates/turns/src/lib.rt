@@ -1,3 +1,5 @@
+#![tactic(auto)]
+
 // Turns do not matter: a run of some steps, and one of some more, is one run of all of them.
 mod turns;
 

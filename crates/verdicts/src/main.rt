@@ -1,3 +1,5 @@
+#![tactic(auto)]
+
 // Trials of the check: what it answers, what it leaves in the tables, and what a passed program then does, one line a
 // trial.
 mod answers;

@@ -2,14 +2,14 @@ use Rattle.std.proofs.Common.{arith}
 use Rattle.decimal.proofs.Spellings.{low, more, last}
 use Rattle.decimal.proofs.spelling.spell_size.Goals as goal
 
-pub overflow-sub-start : goal.overflow-sub-start
-overflow-sub-start c = omega (arith, low _ _ _ _ c.loop-rest.invariant)
+pub overflow_sub-start : goal.overflow_sub-start
+overflow_sub-start c = omega (arith, low _ _ _ _ c.loop-rest.invariant)
 
 pub loop-rest-preserved : goal.loop-rest-preserved
 loop-rest-preserved c = more _ _ _ _ c.loop-rest.invariant (omega arith)
 
-pub overflow-sub-start-2 : goal.overflow-sub-start-2
-overflow-sub-start-2 c = omega (arith, low _ _ _ _ c.loop-rest.invariant)
+pub overflow_sub-start-2 : goal.overflow_sub-start-2
+overflow_sub-start-2 c = omega (arith, low _ _ _ _ c.loop-rest.invariant)
 
 pub returns : goal.returns
 returns c =
