@@ -11,21 +11,21 @@ use Rattle.plan.specs.Rulings.{Called}
 use Rattle.plan.proofs.Calling.{called_ruled, called_low}
 use Rattle.plan.proofs.rules.rule_at.Goals as goal
 
-pub returns-then-is-call : goal.returns-then-is-call
-returns-then-is-call c =
+pub returns-then-is_call : goal.returns-then-is_call
+returns-then-is_call c =
     let P : Program = coded c.args.code.now c.args.units.now in
-    let k : kind c.args.i.op ≡ Pushes = sym (ap (λ (x : Row). x.kind) c.row-of.ensures) ∙ c.in-Pushes.is in
+    let k : kind c.args.i.op ≡ Pushes = sym (ap (λ (x : Row). x.kind) c.row_of.ensures) ∙ c.in-Pushes.is in
     let f : SFits w32 c.args.i.argument = search rules in
     let q = subst (λ (z : ℤ). Called P.units c.args.address c.args.at.depth z c.call.result) (to_z-of_z w32 c.args.i.argument f) c.call.ensures in
     record {
-      ruled = called_ruled P c.args.address c.args.at.body c.args.at.depth c.args.i k (c.if-is-call.ensures.0 refl) c.call.result q;
+      ruled = called_ruled P c.args.address c.args.at.body c.args.at.depth c.args.i k (c.if-is_call.ensures.0 refl) c.call.result q;
       low = λ l. called_low P.units c.args.address c.args.at.depth c.args.i.argument c.call.result q;
     }
 
 pub returns-else-closes : goal.returns-else-closes
 returns-else-closes c =
     let P : Program = coded c.args.code.now c.args.units.now in
-    let k : kind c.args.i.op ≡ Ends = sym (ap (λ (x : Row). x.kind) c.row-of.ensures) ∙ c.in-Ends.is in
+    let k : kind c.args.i.op ≡ Ends = sym (ap (λ (x : Row). x.kind) c.row_of.ensures) ∙ c.in-Ends.is in
     record {
       ruled = subst (λ (x : Kind). Unruled P c.args.address c.args.at.body c.args.at.depth c.args.i x) (sym k) (λ j v q. both_ways c.closes.result c.if-closes.false (c.closes.ensures.1 (j, v, q)));
       low = λ l. tt;

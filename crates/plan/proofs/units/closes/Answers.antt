@@ -8,4 +8,4 @@ pub returns : goal.returns
 returns c =
     let f : SFits w32 c.in-Some.k = search rules in
     closes_is (coded c.args.code.now c.args.units.now) c.args.address c.args.at.body c.args.at.depth c.in-Some.k (to_z w32 (of_z w32 c.in-Some.k))
-    c.is-number.result c.in-Some-unit-of.v (to_z-of_z w32 c.in-Some.k f) c.in-Some.ensures c.in-Some-unit-of.ensures c.if-at-ne0.false c.is-number.ensures
+    c.is_number.result c.in-Some-unit_of.v (to_z-of_z w32 c.in-Some.k f) c.in-Some.ensures c.in-Some-unit_of.ensures c.if-at-ne0.false c.is_number.ensures

@@ -8,4 +8,4 @@ pub loop-v-preserved : goal.loop-v-preserved
 loop-v-preserved c =
     units_each c.args.units.now (λ (k : ℕ) (v : UnitRecord). to_z w32 (of_z w32 c.args.start) ≡ pos v.entry → ⊥) c.loop-v.v-index c.v-item.result c.loop-v.invariant
     (c.loop-v-test.true, sym c.v-item.is)
-    (λ q. both_ways c.is-number.result c.if-is-number.false (c.is-number.ensures.1 q))
+    (λ q. both_ways c.is_number.result c.if-is_number.false (c.is_number.ensures.1 q))

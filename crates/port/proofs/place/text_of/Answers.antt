@@ -5,8 +5,8 @@ use Rattle.std.proofs.lemmas.Int.{to_z-of_z}
 use Rattle.port.proofs.Places.{text_padded}
 use Rattle.port.proofs.place.text_of.Goals as goal
 
-pub slice-bounds-place-end : goal.slice-bounds-place-end
-slice-bounds-place-end c =
+pub slice_bounds-place-end : goal.slice_bounds-place-end
+slice_bounds-place-end c =
     let l : length c.text-text.result.now ≤ 11 = rw c.text-text.ensures (simp length-take (omega arith)) in
     search rules
 
@@ -14,4 +14,4 @@ pub returns : goal.returns
 returns c =
     let f : SFits w32 c.args.reading.value = search rules in
     let s : c.text-text.result.now ≡ signed_decimal c.args.reading.value = c.text-text.ensures ∙ (simp to_z-of_z at c.spell-numeral.ensures) in
-    text_padded c.args.reading c.copy-from-slice.new.self c.text-text.result.now c.copy-from-slice.ensures.after s
+    text_padded c.args.reading c.copy_from_slice.new.self c.text-text.result.now c.copy_from_slice.ensures.after s

@@ -5,8 +5,8 @@ use Rattle.syntax.specs.Kinds.{belongs}
 use Rattle.syntax.proofs.Runs.{front_yes, after_yes, front_no, after_no}
 use Rattle.syntax.proofs.bytes.run_len.Goals as goal
 
-pub returns-then-not-is-of : goal.returns-then-not-is-of
-returns-then-not-is-of c =
+pub returns-then-not-is_of : goal.returns-then-not-is_of
+returns-then-not-is_of c =
     let h : c.loop-byte.n < length c.args.line.now = omega arith in
     let e : belongs c.args.kind (get_or c.args.line.now c.loop-byte.n 0) ≡ false = cc in
     record {

@@ -7,7 +7,7 @@ use Rattle.syntax.proofs.Listed.{items_span}
 use Rattle.syntax.proofs.extents.cells_of.Goals as goal
 
 pub returns-in-Words : goal.returns-in-Words
-returns-in-Words c = c.cells-in.ensures.is ∙ sym (items_span _) ∙ ap (λ s. length (cells (stated s))) (sym c.in-Words.is)
+returns-in-Words c = c.cells_in.ensures.is ∙ sym (items_span _) ∙ ap (λ s. length (cells (stated s))) (sym c.in-Words.is)
 
 pub returns-in-Copies : goal.returns-in-Copies
-returns-in-Copies c = c.copies-in.ensures ∙ sym (length-replicate _ _) ∙ ap (λ s. length (cells (stated s))) (sym c.in-Copies.is)
+returns-in-Copies c = c.copies_in.ensures ∙ sym (length-replicate _ _) ∙ ap (λ s. length (cells (stated s))) (sym c.in-Copies.is)

@@ -4,4 +4,4 @@ use Rattle.syntax.proofs.Listed.{operation_form}
 use Rattle.syntax.proofs.statements.operation_statement.Goals as goal
 
 pub returns : goal.returns
-returns c = c.instruction.ensures ∙ operation_form _ (smalls c.args.word.now) _ _ c.if-is-word.ensures c.in-ok-op.ensures
+returns c = c.instruction.ensures ∙ operation_form _ (smalls c.args.word.now) _ _ c.if-is_word.ensures c.in_ok-op.ensures

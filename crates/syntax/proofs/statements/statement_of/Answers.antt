@@ -6,5 +6,5 @@ use Rattle.syntax.proofs.statements.statement_of.Goals as goal
 
 pub returns : goal.returns
 returns c =
-    let e : line_form c.ok-or.result ≡ form c.args.line.now = search rules in
+    let e : line_form c.ok_or.result ≡ form c.args.line.now = search rules in
     record { form = e; limited = rw e (limited c.args.line.now) }

@@ -3,4 +3,4 @@ use Rattle.syntax.proofs.Tokened.{tokens_read}
 use Rattle.syntax.proofs.tokens.next_token.Goals as goal
 
 pub returns : goal.returns
-returns c = record { read = c.first-token.ensures; tokens = tokens_read c.args.line.now c.first-token.result (λ p. meant p.0) (λ p. p.1.now) c.first-token.ensures }
+returns c = record { read = c.first_token.ensures; tokens = tokens_read c.args.line.now c.first_token.result (λ p. meant p.0) (λ p. p.1.now) c.first_token.ensures }

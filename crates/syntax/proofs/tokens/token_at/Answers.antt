@@ -3,5 +3,5 @@ use Rattle.std.proofs.lemmas.List.{take_rest}
 use Rattle.syntax.proofs.Firsts.{sign_is}
 use Rattle.syntax.proofs.tokens.token_at.Goals as goal
 
-pub returns-in-default : goal.returns-in-default
-returns-in-default c = rw take_rest (sym (sign_is c.args.line.now (omega arith) (sym c.if-starts-name.ensures) (sym c.if-begins-number.ensures) (omega arith) (omega arith)))
+pub returns-in_default : goal.returns-in_default
+returns-in_default c = rw take_rest (sym (sign_is c.args.line.now (omega arith) (sym c.if-starts_name.ensures) (sym c.if-begins_number.ensures) (omega arith) (omega arith)))

@@ -9,4 +9,4 @@ returns c =
     let s = c.args.self.now in
     let p = s.places.now in
     queue_first (place_reading p) (places_in p) s.first s.count c.requires
-    ∙ ap (λ x. x ∷ waiting_in p (wrapped (places_in p) (s.first + 1)) (s.count - 1)) (sym c.read-place.ensures)
+    ∙ ap (λ x. x ∷ waiting_in p (wrapped (places_in p) (s.first + 1)) (s.count - 1)) (sym c.read_place.ensures)

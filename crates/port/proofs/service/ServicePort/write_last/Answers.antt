@@ -9,16 +9,16 @@ use Rattle.port.proofs.service.ServicePort.write_last.Goals as goal
 pub loop-i-init : goal.loop-i-init
 loop-i-init c =
     let s = c.args.self.now in
-    (ap (λ q. held q s.bytes.now s.first s.count s.written) (paste_none s.places.now (12 * c.wrap-place.result) c.text-of-text.result), (refl, refl))
+    (ap (λ q. held q s.bytes.now s.first s.count s.written) (paste_none s.places.now (12 * c.wrap-place.result) c.text_of-text.result), (refl, refl))
 
 pub loop-i-preserved : goal.loop-i-preserved
 loop-i-preserved c =
     let s = c.args.self.now in
     let o = c.loop-i.self in
     let f : SFits w32 c.args.reading.value = search rules in
-    let l : length c.text-of-text.result ≡ 12 = ap length c.text-of-text.ensures ∙ length_padded c.args.reading f in
+    let l : length c.text_of-text.result ≡ 12 = ap length c.text_of-text.ensures ∙ length_padded c.args.reading f in
     let w : c.wrap-place.result < places_in s.places.now = rw c.wrap-place.ensures (last_within (places_in s.places.now) s.first s.count (omega arith) c.requires) in
-    (held_more o.places.now o.bytes.now s.places.now s.bytes.now c.text-of-text.result o.first o.count o.written s.first s.count s.written (12 * c.wrap-place.result) c.loop-i.i (omega arith) (omega arith) c.loop-i.invariant.0, c.loop-i.invariant.1)
+    (held_more o.places.now o.bytes.now s.places.now s.bytes.now c.text_of-text.result o.first o.count o.written s.first s.count s.written (12 * c.wrap-place.result) c.loop-i.i (omega arith) (omega arith) c.loop-i.invariant.0, c.loop-i.invariant.1)
 
 pub returns : goal.returns
 returns c =
@@ -27,7 +27,7 @@ returns c =
     let k = c.wrap-place.result in
     let f : SFits w32 c.args.reading.value = search rules in
     let e : c.loop-i.i ≡ 12 = omega arith in
-    let h = c.loop-i.invariant.0 ∙ ap (λ q. held q s.bytes.now s.first s.count s.written) (paste_placed p c.text-of-text.result k c.loop-i.i c.args.reading f c.text-of-text.ensures e) in
+    let h = c.loop-i.invariant.0 ∙ ap (λ q. held q s.bytes.now s.first s.count s.written) (paste_placed p c.text_of-text.result k c.loop-i.i c.args.reading f c.text_of-text.ensures e) in
     record {
       waiting =
           ap (λ (o : Held). waiting_in o.places s.first (s.count + 1)) h
