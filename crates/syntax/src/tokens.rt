@@ -30,8 +30,8 @@ fn begins_number(line: &[u8]) -> bool
 
 // A character between apostrophes, or an apostrophe alone.
 fn quoted_token<'a>(line: &'a [u8]) -> (Token<'a>, &'a [u8])
-    requires line_nonzero { 0 < length line.now }
-    requires line_value { slice_index line.now 0 ≡ 39 }
+    requires begun { 0 < length line.now }
+    requires apostrophe { slice_index line.now 0 ≡ 39 }
     ensures { read (meant result.0) result.1.now ≡ token_of line.now }
 {
     match line {
@@ -45,8 +45,8 @@ fn quoted_token<'a>(line: &'a [u8]) -> (Token<'a>, &'a [u8])
 
 // A text between quotation marks, or a quotation mark alone.
 fn text_token<'a>(line: &'a [u8]) -> (Token<'a>, &'a [u8])
-    requires line_nonzero { 0 < length line.now }
-    requires line_value { slice_index line.now 0 ≡ 34 }
+    requires begun { 0 < length line.now }
+    requires quotation { slice_index line.now 0 ≡ 34 }
     ensures { read (meant result.0) result.1.now ≡ token_of line.now }
 {
     let inner = &line[1..];
@@ -59,8 +59,8 @@ fn text_token<'a>(line: &'a [u8]) -> (Token<'a>, &'a [u8])
 
 // A word of at most 31 bytes is a name; a longer one is a sign that no form has.
 fn name_token<'a>(line: &'a [u8]) -> (Token<'a>, &'a [u8])
-    requires line_nonzero { 0 < length line.now }
-    requires line_value { starts (slice_index line.now 0) ≡ true }
+    requires begun { 0 < length line.now }
+    requires lettered { starts (slice_index line.now 0) ≡ true }
     ensures { read (meant result.0) result.1.now ≡ token_of line.now }
 {
     let (word, rest) = line.split_at(run_len(line, Kind::Name));
@@ -72,9 +72,9 @@ fn name_token<'a>(line: &'a [u8]) -> (Token<'a>, &'a [u8])
 }
 
 fn number_token<'a>(line: &'a [u8]) -> (Token<'a>, &'a [u8])
-    requires line_nonzero { 0 < length line.now }
-    requires line_value { starts (slice_index line.now 0) ≡ false }
-    requires line_value_2 { figures (slice_index line.now 0) (drop 1 line.now) ≡ true }
+    requires begun { 0 < length line.now }
+    requires unlettered { starts (slice_index line.now 0) ≡ false }
+    requires figures { figures (slice_index line.now 0) (drop 1 line.now) ≡ true }
     ensures { read (meant result.0) result.1.now ≡ token_of line.now }
 {
     let (digits, rest) = line.split_at(1 + run_len(&line[1..], Kind::Digit));

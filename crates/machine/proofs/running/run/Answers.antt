@@ -5,18 +5,18 @@ use Rattle.machine.specs.Console.{console}
 use Rattle.machine.proofs.Keeping.{left_safe}
 use Rattle.machine.proofs.running.run.Goals as goal
 
-pub invariant-of-machine : goal.invariant-of-machine
-invariant-of-machine g c =
+pub invariant_of-machine : goal.invariant_of-machine
+invariant_of-machine g c =
     let m = c.args.machine.now in
-    let e = c.run-live-report.ensures in
-    let s = left_safe m.layout c.args.allowance (core m.registers c.args.memory.now) (core c.run-live-report.new.r c.run-live-report.new.memory) _ _ c.run-live-report.result.steps c.run-live-report.result.outcome e.after m.ordered m.floor m.low (omega arith) in
+    let e = c.run_live-report.ensures in
+    let s = left_safe m.layout c.args.allowance (core m.registers c.args.memory.now) (core c.run_live-report.new.r c.run_live-report.new.memory) _ _ c.run_live-report.result.steps c.run_live-report.result.outcome e.after m.ordered m.floor m.low (omega arith) in
     (m.ordered, (s.floor, (m.few, (omega arith, (omega arith, tt)))))
 
 pub returns-in-Live : goal.returns-in-Live
 returns-in-Live g c =
     let m = c.args.machine.now in
-    let e = c.run-live-report.ensures in
-    let s = left_safe m.layout c.args.allowance (core m.registers c.args.memory.now) (core c.run-live-report.new.r c.run-live-report.new.memory) _ _ c.run-live-report.result.steps c.run-live-report.result.outcome e.after m.ordered m.floor m.low (omega arith) in
+    let e = c.run_live-report.ensures in
+    let s = left_safe m.layout c.args.allowance (core m.registers c.args.memory.now) (core c.run_live-report.new.r c.run_live-report.new.memory) _ _ c.run_live-report.result.steps c.run_live-report.result.outcome e.after m.ordered m.floor m.low (omega arith) in
     record {
       long = c.if-memory-machine.false;
       layout = refl;

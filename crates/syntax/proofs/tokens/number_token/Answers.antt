@@ -7,5 +7,5 @@ use Rattle.syntax.proofs.tokens.number_token.Goals as goal
 
 pub returns : goal.returns
 returns c =
-    let e = number_is c.args.line.now c.run_len.result c.requires.0 c.requires.1 c.requires.2 (rw take_rest at c.run_len.ensures.front) (rw take_rest at c.run_len.ensures.after) in
+    let e = number_is c.args.line.now c.run_len.result c.requires.begun c.requires.unlettered c.requires.figures (rw take_rest at c.run_len.ensures.front) (rw take_rest at c.run_len.ensures.after) in
     rw (c.split_at.ensures.front, c.split_at.ensures.back) (sym e)
