@@ -47,10 +47,10 @@ fn survey_texts(
     labels: &mut SlotList<Label>,
     units: &mut SlotList<Unit>,
 ) -> Result<Tally, Fault>
-    requires site_len_bound { length site.now ≤ 65536 }
-    requires library_len_bound { length library.now ≤ 65536 }
-    requires labels_value { marks labels.old ≡ [] }
-    requires units_value { entries units.old ≡ [] }
+    requires short_site { length site.now ≤ 65536 }
+    requires short_library { length library.now ≤ 65536 }
+    requires no_labels { marks labels.old ≡ [] }
+    requires no_units { entries units.old ≡ [] }
     ensures surveys { Surveys (forms site.now) (forms library.now) (room labels.old) (room units.old) result (marks labels.new) (entries units.new) }
     ensures small { Tallied result }
     ensures labels { Kept labels.old labels.new }
@@ -74,8 +74,8 @@ fn survey_texts(
 
 // The first line with a name that has no label.
 fn unlinked(labels: &[Label], site: &[u8], library: &[u8]) -> Option<Fault>
-    requires site_len_bound { length site.now ≤ 65536 }
-    requires library_len_bound { length library.now ≤ 65536 }
+    requires short_site { length site.now ≤ 65536 }
+    requires short_library { length library.now ≤ 65536 }
     ensures { Links result (forms site.now) (forms library.now) (map mark_of labels.now) }
 {
     let line = unresolved_in(labels, site);
@@ -111,10 +111,10 @@ fn link(
     units: &mut SlotList<Unit>,
 ) -> Result<Assembled, Fault>
     requires fresh { Fresh cells written.old labels.old units.old }
-    requires site_len_bound { length site.now ≤ 65536 }
-    requires library_len_bound { length library.now ≤ 65536 }
+    requires short_site { length site.now ≤ 65536 }
+    requires short_library { length library.now ≤ 65536 }
     requires small { Small tally 200000000 }
-    requires q_value { (q : SectionKind) → extent tally q ≡ length (both q (forms site.now) (forms library.now)) }
+    requires extents { (q : SectionKind) → extent tally q ≡ length (both q (forms site.now) (forms library.now)) }
     ensures builds { Builds cells result (fitted cells (forms site.now) (forms library.now) (surveyed tally (marks labels.old) (entries units.old))) (items written.new) (marks labels.new) (entries units.new) }
     ensures written { Kept written.old written.new }
     ensures labels { Kept labels.old labels.new }
@@ -157,10 +157,10 @@ pub(crate) fn build(
     units: &mut SlotList<Unit>,
 ) -> Result<Assembled, Fault>
     requires fresh { Fresh cells written.old labels.old units.old }
-    requires site_len_bound { length site.now ≤ 65536 }
-    requires library_len_bound { length library.now ≤ 65536 }
-    requires labels_value { marks labels.old ≡ [] }
-    requires units_value { entries units.old ≡ [] }
+    requires short_site { length site.now ≤ 65536 }
+    requires short_library { length library.now ≤ 65536 }
+    requires no_labels { marks labels.old ≡ [] }
+    requires no_units { entries units.old ≡ [] }
     ensures builds { Builds cells result (first cells (forms site.now) (forms library.now) (room labels.old) (room units.old)) (items written.new) (marks labels.new) (entries units.new) }
     ensures written { Kept written.old written.new }
     ensures labels { Kept labels.old labels.new }

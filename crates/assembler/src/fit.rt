@@ -27,10 +27,10 @@ pub(crate) fn assemble_fit(
     labels: &mut [Label],
     units: &mut [Unit],
 ) -> Result<Assembled, Fault>
-    requires in_bounds { 16 ≤ length memory.old }
-    requires memory_len_bound { length memory.old ≤ 65536 }
-    requires site_len_bound { length site.now ≤ 65536 }
-    requires library_len_bound { length library.now ≤ 65536 }
+    requires enough_cells { 16 ≤ length memory.old }
+    requires few_cells { length memory.old ≤ 65536 }
+    requires short_site { length site.now ≤ 65536 }
+    requires short_library { length library.now ≤ 65536 }
     ensures { Outcome result (first (length memory.old) (forms site.now) (forms library.now) (min (length labels.old) 512) (min (length units.old) 64)) (handed memory.old labels.old units.old) (handed memory.new labels.new units.new) }
 {
     let cells = memory.len();

@@ -50,7 +50,7 @@ fn placed(tally: Tally, label: Label) -> Label
 // The label at a place gets its address.
 fn lay_one(tally: Tally, labels: &mut SlotList<Label>, i: usize)
     requires small { Small tally 1000000000 }
-    requires i_lt_len { i < labels.old.len }
+    requires within { i < labels.old.len }
     ensures labels { (d : Mark) → marks labels.new ≡ slice_set (marks labels.old) i (laid tally (slice_index_or (marks labels.old) i d)) }
     ensures kept { Kept labels.old labels.new }
     ensures len { labels.new.len ≡ labels.old.len }

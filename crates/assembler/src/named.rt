@@ -41,7 +41,7 @@ impl Named for Unit {
 
 // Is the word the name of one of these?
 fn is_given<T: Named>(items: &[T], word: &[u8]) -> bool
-    ensures { result ≡ has (smalls word.now) (map named items.now) }
+    ensures { result ≡ has (smalls word.now) (map T.named items.now) }
 {
     for item in items {
         if item.is_named(word) {
@@ -57,7 +57,7 @@ pub(crate) fn add<T: Named + Copy>(
     word: &[u8],
     item: T,
 ) -> Result<(), AssemblyCause>
-    ensures added { MatchResult result (λ _. (on : List T → Step) → adding (room list.old) (map named (items list.old)) (items list.old) (smalls word.now) item on ≡ on (items list.new)) (λ e. (on : List T → Step) → adding (room list.old) (map named (items list.old)) (items list.old) (smalls word.now) item on ≡ stop e) }
+    ensures added { MatchResult result (λ _. (on : List T → Step) → adding (room list.old) (map T.named (items list.old)) (items list.old) (smalls word.now) item on ≡ on (items list.new)) (λ e. (on : List T → Step) → adding (room list.old) (map T.named (items list.old)) (items list.old) (smalls word.now) item on ≡ stop e) }
     ensures kept { Kept list.old list.new }
 {
     if is_given(list.items(), word) {

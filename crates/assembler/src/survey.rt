@@ -32,7 +32,7 @@ fn extent_of(tally: Tally) -> usize
 // n more cells in the section at hand.
 fn grow(tally: Tally, n: usize) -> Tally
     requires small { Small tally 1000000000 }
-    requires n_bound { n ≤ 1000 }
+    requires few { n ≤ 1000 }
     ensures is { result ≡ grown tally n }
     ensures grows { (m : ℕ) → Small tally m → Small result (m + 1000) }
 {
@@ -70,7 +70,7 @@ fn octet_of(number: &[u8]) -> u8
 // A label at the end of the section at hand.
 fn add_label(tally: Tally, labels: &mut SlotList<Label>, word: &[u8]) -> Result<(), AssemblyCause>
     requires small { Small tally 1000000000 }
-    requires word_len_bound { length word.now ≤ 31 }
+    requires short { length word.now ≤ 31 }
     ensures added { MatchResult result (λ _. (on : List Mark → Step) → adding (room labels.old) (map (λ l. l.name) (marks labels.old)) (marks labels.old) (smalls word.now) (mark (smalls word.now) tally.section (extent tally tally.section)) on ≡ on (marks labels.new)) (λ e. (on : List Mark → Step) → adding (room labels.old) (map (λ l. l.name) (marks labels.old)) (marks labels.old) (smalls word.now) (mark (smalls word.now) tally.section (extent tally tally.section)) on ≡ stop e) }
     ensures kept { Kept labels.old labels.new }
 {
@@ -98,7 +98,7 @@ fn put_cells(
 ) -> Result<Tally, AssemblyCause>
     requires small { Small tally 1000000000 }
     requires short_label { ShortLabel (label_of label) }
-    requires n_bound { n ≤ 1000 }
+    requires few { n ≤ 1000 }
     ensures put { (u : ℕ) (us : List Entry) → stepped result (marks labels.new) us ≡ putting (room labels.old) u (surveyed tally (marks labels.old) us) (label_of label.entry) n }
     ensures kept { Kept labels.old labels.new }
     ensures grows { Grows tally result }
@@ -131,7 +131,7 @@ fn put_allowed(
 ) -> Result<Tally, AssemblyCause>
     requires small { Small tally 1000000000 }
     requires short_label { ShortLabel (label_of label) }
-    requires n_bound { n ≤ 1000 }
+    requires few { n ≤ 1000 }
     ensures put { (u : ℕ) (us : List Entry) → stepped result (marks labels.new) us ≡ demand allowed WrongSection (putting (room labels.old) u (surveyed tally (marks labels.old) us) (label_of label.entry) n) }
     ensures kept { Kept labels.old labels.new }
     ensures grows { Grows tally result }
@@ -250,7 +250,7 @@ pub(crate) fn survey_text(
     labels: &mut SlotList<Label>,
     units: &mut SlotList<Unit>,
 ) -> Result<Tally, LineCause>
-    requires text_len_bound { length text.now ≤ 65536 }
+    requires short { length text.now ≤ 65536 }
     requires small { Small start 100000000 }
     ensures survey { surveyed_to result (marks labels.new) (entries units.new) ≡ survey (room labels.old) (room units.old) 1 (surveyed start (marks labels.old) (entries units.old)) (forms text.now) }
     ensures labels { Kept labels.old labels.new }

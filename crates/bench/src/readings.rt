@@ -8,9 +8,9 @@ use syntax::next_line;
 
 // Offers the numbers among the lines of a text to a port, as many as it has openings for. Other lines are skipped.
 pub(crate) fn offer_readings<P: Port>(text: &[u8], port: &mut P)
-    ensures waiting { (meaning port.new).waiting ≡ (meaning port.old).waiting ++ take (meaning port.old).openings (numbers (lines text.now)) }
-    ensures shown { (meaning port.new).shown ≡ (meaning port.old).shown }
-    ensures space { (meaning port.new).space ≡ (meaning port.old).space }
+    ensures waiting { (P.meaning port.new).waiting ≡ (P.meaning port.old).waiting ++ take (P.meaning port.old).openings (numbers (lines text.now)) }
+    ensures shown { (P.meaning port.new).shown ≡ (P.meaning port.old).shown }
+    ensures space { (P.meaning port.new).space ≡ (P.meaning port.old).space }
 {
     let mut rest = text;
     while let Some((line, after)) = next_line(rest) {

@@ -42,7 +42,7 @@ fn refused(heap: Global, fault: Fault) -> Result<Vec<u8>, AllocError>
 
 // The report of a program that ran.
 fn ran<P: Port>(heap: Global, report: Report, pc: i32, port: &P) -> Result<Vec<u8>, AllocError>
-    ensures { IfOk result (λ v. v.items ≡ ran_report (meaning port.now).shown report.outcome report.steps pc) }
+    ensures { IfOk result (λ v. v.items ≡ ran_report (P.meaning port.now).shown report.outcome report.steps pc) }
 {
     let mut bytes = shown_bytes(heap, port)?;
     bytes.push(b'\n')?;
@@ -60,7 +60,7 @@ fn trial<P: Port>(
     port: &mut P,
 ) -> Result<Vec<u8>, AllocError>
     requires { length memory.old ≡ program.counts.cells }
-    ensures { IfOk result (λ v. v.items ≡ trial_of program.counts memory.old (console (meaning port.old))) }
+    ensures { IfOk result (λ v. v.items ≡ trial_of program.counts memory.old (console (P.meaning port.old))) }
 {
     let mut machine = match bench_start(program, memory) {
         Ok(machine) => machine,

@@ -14,24 +14,24 @@ pub fn run_controller<P: Port>(
     port: &mut P,
     allowance: u32,
 ) -> Result<Report, Fault>
-    ensures answered { Answered allowance machine.old machine.new memory.old memory.new (meaning port.old) (meaning port.new) result }
-    ensures lived { RunLived allowance (controlled machine.old memory.old (meaning port.old)) result (controlled machine.new memory.new (meaning port.new)) }
+    ensures answered { Answered allowance machine.old machine.new memory.old memory.new (P.meaning port.old) (P.meaning port.new) result }
+    ensures lived { RunLived allowance (controlled machine.old memory.old (P.meaning port.old)) result (controlled machine.new memory.new (P.meaning port.new)) }
 {
     run(machine, memory, port, allowance)
 }
 
 // An offer to a controller's port.
 pub fn offer_reading<P: Port>(port: &mut P, reading: Reading) -> Result<(), Fault>
-    ensures offered { Offered (meaning port.old) reading result (meaning port.new) }
-    ensures lived { OfferLived reading (meaning port.old) result (meaning port.new) }
+    ensures offered { Offered (P.meaning port.old) reading result (P.meaning port.new) }
+    ensures lived { OfferLived reading (P.meaning port.old) result (P.meaning port.new) }
 {
     port.offer(reading)
 }
 
 // A clear of a controller's port.
 pub fn clear_shown<P: Port>(port: &mut P)
-    ensures cleared { Cleared (meaning port.old) (meaning port.new) }
-    ensures lived { ClearLived (meaning port.old) (meaning port.new) }
+    ensures cleared { Cleared (P.meaning port.old) (P.meaning port.new) }
+    ensures lived { ClearLived (P.meaning port.old) (P.meaning port.new) }
 {
     port.clear();
 }

@@ -25,7 +25,7 @@ pub fn run<P: Port>(
     port: &mut P,
     allowance: u32,
 ) -> Result<Report, Fault>
-    ensures { Answered allowance machine.old machine.new memory.old memory.new (meaning port.old) (meaning port.new) result }
+    ensures { Answered allowance machine.old machine.new memory.old memory.new (P.meaning port.old) (P.meaning port.new) result }
 {
     if memory.len() != machine.cells {
         return Err(Fault::Machine(MachineCause::MemoryLength, Place::Nowhere));

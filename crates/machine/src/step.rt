@@ -21,9 +21,9 @@ fn settle<P: Port>(
     port: &mut P,
 ) -> Step
     requires { (Sound next (length memory.old)) × ((Sound r.old (length memory.old)) × (Roomy effect next (length memory.old))) }
-    ensures after { step_left result (core r.new memory.new) (console (meaning port.new)) ≡ answered (asks effect (core next memory.old)) (core r.old memory.old) (console (meaning port.old)) }
+    ensures after { step_left result (core r.new memory.new) (console (P.meaning port.new)) ≡ answered (asks effect (core next memory.old)) (core r.old memory.old) (console (P.meaning port.old)) }
     ensures sound { Sound r.new (length memory.old) }
-    ensures openings { (meaning port.old).openings ≤ (meaning port.new).openings }
+    ensures openings { (P.meaning port.old).openings ≤ (P.meaning port.new).openings }
 {
     match effect {
         Effect::Done => {
@@ -65,9 +65,9 @@ pub(crate) fn step<P: Port>(
     port: &mut P,
 ) -> Step
     requires { (Sound r.old (length memory.old)) × (layout.code ≤ length memory.old) }
-    ensures after { step_left result (core r.new memory.new) (console (meaning port.new)) ≡ one_step layout (core r.old memory.old) (console (meaning port.old)) }
+    ensures after { step_left result (core r.new memory.new) (console (P.meaning port.new)) ≡ one_step layout (core r.old memory.old) (console (P.meaning port.old)) }
     ensures sound { Sound r.new (length memory.old) }
-    ensures openings { (meaning port.old).openings ≤ (meaning port.new).openings }
+    ensures openings { (P.meaning port.old).openings ≤ (P.meaning port.new).openings }
 {
     let mut next = *r;
     match perform(layout, &mut next, memory) {

@@ -17,9 +17,9 @@ pub(crate) fn run_live<P: Port>(
     allowance: u32,
 ) -> Report
     requires { (Sound r.old (length memory.old)) × (layout.code ≤ length memory.old) }
-    ensures after { ran result.steps result.outcome (core r.new memory.new) (console (meaning port.new)) ≡ runs layout 0 allowance (core r.old memory.old) (console (meaning port.old)) }
+    ensures after { ran result.steps result.outcome (core r.new memory.new) (console (P.meaning port.new)) ≡ runs layout 0 allowance (core r.old memory.old) (console (P.meaning port.old)) }
     ensures sound { Sound r.new (length memory.old) }
-    ensures openings { (meaning port.old).openings ≤ (meaning port.new).openings }
+    ensures openings { (P.meaning port.old).openings ≤ (P.meaning port.new).openings }
 {
     let mut steps = 0;
     while steps < allowance {

@@ -31,7 +31,7 @@ pub fn run_turns<P: Port>(
     first: u32,
     second: u32,
 ) -> Result<Turns, Fault>
-    ensures { Answered (first + second) machine.old machine.new memory.old memory.new (meaning port.old) (meaning port.new) result }
+    ensures { Answered (first + second) machine.old machine.new memory.old memory.new (P.meaning port.old) (P.meaning port.new) result }
 {
     let report = run(machine, memory, port, first)?;
     match report.outcome {

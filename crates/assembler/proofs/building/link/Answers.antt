@@ -21,24 +21,24 @@ returns-in-None c =
     let u = c.args.units.now in
     let m = marks l in
     let e = entries u in
-    let ls = marks c.lay-out.new.labels in
+    let ls = marks c.lay_out.new.labels in
     let v = c.args.written.now in
-    let w = c.write-all.new.written in
+    let w = c.write_all.new.written in
     let k : length m ≡ l.len = length-map (items l) mark_of ∙ length-take-le l.len (slots_of l) (omega arith) in
     let j : length e ≡ u.len = length-map (items u) entry_of ∙ length-take-le u.len (slots_of u) (omega arith) in
-    let a = c.len.ensures ∙ c.lay-out.ensures.len ∙ sym k in
-    let b = c.len-in-None.ensures ∙ c.open-units.ensures.len ∙ sym j in
+    let a = c.len.ensures ∙ c.lay_out.ensures.len ∙ sym k in
+    let b = c.len-in-None.ensures ∙ c.open_units.ensures.len ∙ sym j in
     let f = λ (xs : List Label). map mark_of xs in
     let g = λ (xs : List Label). linked n site library (surveyed t m e) (f xs) ≡ made n site library (surveyed t m e) (f xs) in
     record {
-      builds = built n site library t m ls e (entries c.open-units.new.units) _ v w c.finished.result c.finished.ensures
+      builds = built n site library t m ls e (entries c.open_units.new.units) _ v w c.finished.result c.finished.ensures
           (counts_same n t.code t.data t.heap c.len.result c.len-in-None.result (length m) (length e) a b)
-          c.if-code-data.false c.requires.4 c.lay-out.ensures.labels
+          c.if-code-data.false c.requires.extents c.lay_out.ensures.labels
           (ap (λ xs. linked n site library (surveyed t m e) (f xs)) (sym c.items.ensures) ∙ c.in-None.ensures n (surveyed t m e) ∙ ap (λ xs. made n site library (surveyed t m e) (f xs)) c.items.ensures)
-          (puts_as v w _ (map (cell ls) (all site library)) (ap (λ xs. map (cell (f xs)) (all site library)) c.items-in-None.ensures) c.write-all.ensures)
-          c.requires.0.none c.requires.0.whole
-          (c.open-units.ensures.units ∙ ap (λ xs. map (opening (f xs)) e) c.items-in-None-2.ensures);
-      written = c.write-all.ensures.kept;
-      labels = c.lay-out.ensures.kept;
-      units = c.open-units.ensures.kept;
+          (puts_as v w _ (map (cell ls) (all site library)) (ap (λ xs. map (cell (f xs)) (all site library)) c.items-in-None.ensures) c.write_all.ensures)
+          c.requires.fresh.none c.requires.fresh.whole
+          (c.open_units.ensures.units ∙ ap (λ xs. map (opening (f xs)) e) c.items-in-None-2.ensures);
+      written = c.write_all.ensures.kept;
+      labels = c.lay_out.ensures.kept;
+      units = c.open_units.ensures.kept;
     }

@@ -11,9 +11,9 @@ pub loop-i-preserved : goal.loop-i-preserved
 loop-i-preserved c =
     let l = c.args.labels.now in
     let i = c.loop-i.invariant in
-    let e = c.lay-one.ensures in
+    let e = c.lay_one.ensures in
     let n : length (marks l) ≡ l.len = length-map (items l) mark_of ∙ length-take-le l.len (slots_of l) (omega arith) in (
-      laid_more (laid c.args.tally) (marks l) (marks c.loop-i.labels) (marks c.lay-one.new.labels) c.loop-i.i i.0 e.labels (omega arith),
+      laid_more (laid c.args.tally) (marks l) (marks c.loop-i.labels) (marks c.lay_one.new.labels) c.loop-i.i i.0 e.labels (omega arith),
       record { room = e.kept.room ∙ i.1.room; lender = e.kept.lender ∙ i.1.lender },
       e.len ∙ i.2,
     )

@@ -11,9 +11,9 @@ pub loop-i-preserved : goal.loop-i-preserved
 loop-i-preserved c =
     let l = c.args.units.now in
     let i = c.loop-i.invariant in
-    let e = c.open-one.ensures in
+    let e = c.open_one.ensures in
     let n : length (entries l) ≡ l.len = length-map (items l) entry_of ∙ length-take-le l.len (slots_of l) (omega arith) in (
-      laid_more (opening (map mark_of c.args.labels.now)) (entries l) (entries c.loop-i.units) (entries c.open-one.new.units) c.loop-i.i i.0 e.units (omega arith),
+      laid_more (opening (map mark_of c.args.labels.now)) (entries l) (entries c.loop-i.units) (entries c.open_one.new.units) c.loop-i.i i.0 e.units (omega arith),
       record { room = e.kept.room ∙ i.1.room; lender = e.kept.lender ∙ i.1.lender },
       e.len ∙ i.2,
     )

@@ -21,9 +21,9 @@ pub returns-in-Ok : goal.returns-in-Ok
 returns-in-Ok c =
     let us = c.args.units.now in
     record {
-      put = λ l ls. sym (in_time l (room us) c.args.tally ls (entries us) (smalls c.args.word.now) c.octet-of.result c.octet-of-2.result _ _ c.if-tally.false c.octet-of.ensures c.octet-of-2.ensures
+      put = λ l ls. sym (in_time l (room us) c.args.tally ls (entries us) (smalls c.args.word.now) c.octet_of.result c.octet_of-2.result _ _ c.if-tally.false c.octet_of.ensures c.octet_of-2.ensures
           ∙ c.in-Ok.ensures.added (λ (vs : List Entry). go (surveyed c.args.tally ls vs)));
-      kept = c.add-unit.ensures.kept;
+      kept = c.add_unit.ensures.kept;
       grows = λ n h. (omega arith, omega arith, omega arith);
     }
 
@@ -31,8 +31,8 @@ pub returns-in-Err : goal.returns-in-Err
 returns-in-Err c =
     let us = c.args.units.now in
     record {
-      put = λ l ls. sym (in_time l (room us) c.args.tally ls (entries us) (smalls c.args.word.now) c.octet-of.result c.octet-of-2.result _ _ c.if-tally.false c.octet-of.ensures c.octet-of-2.ensures
+      put = λ l ls. sym (in_time l (room us) c.args.tally ls (entries us) (smalls c.args.word.now) c.octet_of.result c.octet_of-2.result _ _ c.if-tally.false c.octet_of.ensures c.octet_of-2.ensures
           ∙ c.in-Err.ensures.added (λ (vs : List Entry). go (surveyed c.args.tally ls vs)));
-      kept = c.add-unit.ensures.kept;
+      kept = c.add_unit.ensures.kept;
       grows = tt;
     }

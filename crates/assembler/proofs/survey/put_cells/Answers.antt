@@ -9,11 +9,11 @@ use Rattle.assembler.specs.Progress.{marks}
 use Rattle.assembler.specs.Survey.{go, surveyed, putting, grown}
 use Rattle.assembler.proofs.survey.put_cells.Goals as goal
 
-pub add-label-requires : goal.add-label-requires
-add-label-requires c =
+pub add_label-requires : goal.add_label-requires
+add_label-requires c =
     let w = c.in-Some.word.now in
-    let h : length (smalls w) ≤ 31 = rw c.in-Some.is at c.requires.1 in
-    (c.requires.0, rw (length-map w small) at h)
+    let h : length (smalls w) ≤ 31 = rw c.in-Some.is at c.requires.short_label in
+    record { small = c.requires.small; short = rw (length-map w small) at h }
 
 pub returns-in-Ok : goal.returns-in-Ok
 returns-in-Ok c =
@@ -21,8 +21,8 @@ returns-in-Ok c =
       put = λ u us.
           sym (ap (λ l. putting (room c.args.labels.now) u (surveyed c.args.tally (marks c.args.labels.now) us) (label_of l) c.args.n) c.in-Some.is
           ∙ c.in-Ok.ensures.added (λ (ls : List Mark). go (surveyed (grown c.args.tally c.args.n) ls us))
-          ∙ ap (λ t. go (surveyed t (marks c.add-label.new.labels) us)) (sym c.grow-in-Ok.ensures.is));
-      kept = c.add-label.ensures.kept;
+          ∙ ap (λ t. go (surveyed t (marks c.add_label.new.labels) us)) (sym c.grow-in-Ok.ensures.is));
+      kept = c.add_label.ensures.kept;
       grows = c.grow-in-Ok.ensures.grows;
     }
 
@@ -32,6 +32,6 @@ returns-in-Err c =
       put = λ u us.
           sym (ap (λ l. putting (room c.args.labels.now) u (surveyed c.args.tally (marks c.args.labels.now) us) (label_of l) c.args.n) c.in-Some.is
           ∙ c.in-Err.ensures.added (λ (ls : List Mark). go (surveyed (grown c.args.tally c.args.n) ls us)));
-      kept = c.add-label.ensures.kept;
+      kept = c.add_label.ensures.kept;
       grows = tt;
     }

@@ -6,9 +6,9 @@ use Rattle.assembler.specs.Survey.{survey, surveyed}
 use Rattle.assembler.proofs.Surveys.{survey_more, survey_none}
 use Rattle.assembler.proofs.survey.survey_text.Goals as goal
 
-pub survey-line-requires : goal.survey-line-requires
-survey-line-requires c =
-    let s = c.loop-line.invariant.3 100000000 c.requires.1 in
+pub survey_line-requires : goal.survey_line-requires
+survey_line-requires c =
+    let s = c.loop-line.invariant.3 100000000 c.requires.small in
     (omega arith, omega arith, omega arith)
 
 pub loop-line-preserved : goal.loop-line-preserved
@@ -17,9 +17,9 @@ loop-line-preserved c =
     let i = c.loop-line.invariant in
     let h = c.in-Some.ensures.shorter in
     let n = c.loop-line.number in
-    let t = surveyed c.in-Ok.more (marks c.survey-line.new.labels) (entries c.survey-line.new.units) in
+    let t = surveyed c.in-Ok.more (marks c.survey_line.new.labels) (entries c.survey_line.new.units) in
     let fs = forms c.in-Some.after.now in (
-      ap (λ l. survey l (room c.survey-line.new.units) (n + 1) t fs) e.labels.room
+      ap (λ l. survey l (room c.survey_line.new.units) (n + 1) t fs) e.labels.room
           ∙ ap (λ u. survey (room c.loop-line.labels) u (n + 1) t fs) e.units.room
           ∙ survey_more (room c.loop-line.labels) (room c.loop-line.units) n (surveyed c.loop-line.tally (marks c.loop-line.labels) (entries c.loop-line.units)) c.loop-line.rest.now c.in-Some.line.now c.in-Some.after.now c.in-Some.ensures.lines t e.step
           ∙ i.0,
@@ -36,7 +36,7 @@ pub returns : goal.returns
 returns c =
     let i = c.loop-line.invariant in
     record {
-      survey = survey_none (room c.loop-line.labels) (room c.loop-line.units) c.loop-line.number (surveyed c.loop-line.tally (marks c.loop-line.labels) (entries c.loop-line.units)) c.loop-line.rest.now c.in-default.ensures.lines ∙ i.0;
+      survey = survey_none (room c.loop-line.labels) (room c.loop-line.units) c.loop-line.number (surveyed c.loop-line.tally (marks c.loop-line.labels) (entries c.loop-line.units)) c.loop-line.rest.now c.in_default.ensures.lines ∙ i.0;
       labels = i.1;
       units = i.2;
       grows = λ n small. let s = i.3 n small in (omega arith, omega arith, omega arith);

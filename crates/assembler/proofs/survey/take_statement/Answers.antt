@@ -15,7 +15,7 @@ use Rattle.assembler.proofs.survey.take_statement.Goals as goal
 pub declare-requires : goal.declare-requires
 declare-requires c =
     let w = c.in-Unit.name.now in
-    let h : length (smalls w) ≤ 31 = rw c.in-Unit.is at c.requires.1.name in
+    let h : length (smalls w) ≤ 31 = rw c.in-Unit.is at c.requires.limited.name in
     rw (length-map w small) at h
 
 pub returns-in-Unit : goal.returns-in-Unit
@@ -37,11 +37,11 @@ returns-in-Instruction c =
     let u = room c.args.units.now in
     let w = label_of c.in-Instruction.label in
     record {
-      taken = c.put-allowed.ensures.put u (entries c.args.units.now)
-          ∙ put_taken l u s (stated c.args.statement) w (is_code c.args.tally.section) c.is-code-code.result c.cells-of-n.result (ap (λ t. taken l u s (stated t)) c.in-Instruction.is ∙ sym (ap (λ t. demand (is_code c.args.tally.section) WrongSection (putting l u s w (length (cells (stated t))))) c.in-Instruction.is)) c.is-code-code.ensures c.cells-of-n.ensures;
-      labels = c.put-allowed.ensures.kept;
+      taken = c.put_allowed.ensures.put u (entries c.args.units.now)
+          ∙ put_taken l u s (stated c.args.statement) w (is_code c.args.tally.section) c.is_code-code.result c.cells_of-n.result (ap (λ t. taken l u s (stated t)) c.in-Instruction.is ∙ sym (ap (λ t. demand (is_code c.args.tally.section) WrongSection (putting l u s w (length (cells (stated t))))) c.in-Instruction.is)) c.is_code-code.ensures c.cells_of-n.ensures;
+      labels = c.put_allowed.ensures.kept;
       units = record { room = refl; lender = refl };
-      grows = c.put-allowed.ensures.grows;
+      grows = c.put_allowed.ensures.grows;
     }
 
 pub returns-in-Words : goal.returns-in-Words
@@ -51,11 +51,11 @@ returns-in-Words c =
     let u = room c.args.units.now in
     let w = label_of c.in-Words.label in
     record {
-      taken = c.put-allowed-in-Words.ensures.put u (entries c.args.units.now)
-          ∙ put_taken l u s (stated c.args.statement) w (not (is_code c.args.tally.section)) (not c.is-code-code.result) c.cells-of-n.result (ap (λ t. taken l u s (stated t)) c.in-Words.is ∙ sym (ap (λ t. demand (not (is_code c.args.tally.section)) WrongSection (putting l u s w (length (cells (stated t))))) c.in-Words.is)) (ap not c.is-code-code.ensures) c.cells-of-n.ensures;
-      labels = c.put-allowed-in-Words.ensures.kept;
+      taken = c.put_allowed-in-Words.ensures.put u (entries c.args.units.now)
+          ∙ put_taken l u s (stated c.args.statement) w (not (is_code c.args.tally.section)) (not c.is_code-code.result) c.cells_of-n.result (ap (λ t. taken l u s (stated t)) c.in-Words.is ∙ sym (ap (λ t. demand (not (is_code c.args.tally.section)) WrongSection (putting l u s w (length (cells (stated t))))) c.in-Words.is)) (ap not c.is_code-code.ensures) c.cells_of-n.ensures;
+      labels = c.put_allowed-in-Words.ensures.kept;
       units = record { room = refl; lender = refl };
-      grows = c.put-allowed-in-Words.ensures.grows;
+      grows = c.put_allowed-in-Words.ensures.grows;
     }
 
 pub returns-in-Copies : goal.returns-in-Copies
@@ -65,9 +65,9 @@ returns-in-Copies c =
     let u = room c.args.units.now in
     let w = label_of c.in-Copies.label in
     record {
-      taken = c.put-allowed-in-Copies.ensures.put u (entries c.args.units.now)
-          ∙ put_taken l u s (stated c.args.statement) w (not (is_code c.args.tally.section)) (not c.is-code-code.result) c.cells-of-n.result (ap (λ t. taken l u s (stated t)) c.in-Copies.is ∙ sym (ap (λ t. demand (not (is_code c.args.tally.section)) WrongSection (putting l u s w (length (cells (stated t))))) c.in-Copies.is)) (ap not c.is-code-code.ensures) c.cells-of-n.ensures;
-      labels = c.put-allowed-in-Copies.ensures.kept;
+      taken = c.put_allowed-in-Copies.ensures.put u (entries c.args.units.now)
+          ∙ put_taken l u s (stated c.args.statement) w (not (is_code c.args.tally.section)) (not c.is_code-code.result) c.cells_of-n.result (ap (λ t. taken l u s (stated t)) c.in-Copies.is ∙ sym (ap (λ t. demand (not (is_code c.args.tally.section)) WrongSection (putting l u s w (length (cells (stated t))))) c.in-Copies.is)) (ap not c.is_code-code.ensures) c.cells_of-n.ensures;
+      labels = c.put_allowed-in-Copies.ensures.kept;
       units = record { room = refl; lender = refl };
-      grows = c.put-allowed-in-Copies.ensures.grows;
+      grows = c.put_allowed-in-Copies.ensures.grows;
     }

@@ -11,5 +11,5 @@ pub returns : goal.returns
 returns c =
     let a = c.args.written.now in
     let b = c.put.new.written in
-    puts_then a b c.put-argument.new.written (pos (number c.args.op) ∷ []) (map (cell (map mark_of c.args.labels.now)) (argued c.args.argument))
-    (puts_as a b _ (pos (number c.args.op) ∷ []) (ap (λ v. v ∷ []) (search (rules, to_z-of_z))) c.put.ensures) c.put-argument.ensures
+    puts_then a b c.put_argument.new.written (pos (number c.args.op) ∷ []) (map (cell (map mark_of c.args.labels.now)) (argued c.args.argument))
+    (puts_as a b _ (pos (number c.args.op) ∷ []) (ap (λ v. v ∷ []) (search (rules, to_z-of_z))) c.put.ensures) c.put_argument.ensures

@@ -13,8 +13,8 @@ returns-in-Ok c =
     let ls = map mark_of c.args.labels.now in
     let e = c.in-Ok.ensures.form in
     record {
-      cells = puts_as c.args.written.now c.put-wanted.new.written (map (cell ls) (cond c.args.wanted (cells (stated c.in-Ok.statement)) [])) _ (ap (λ f. map (cell ls) (cond c.args.wanted (cells f) [])) e) c.put-wanted.ensures;
-      section = c.section-after.ensures ∙ ap (following_section c.args.section) e;
+      cells = puts_as c.args.written.now c.put_wanted.new.written (map (cell ls) (cond c.args.wanted (cells (stated c.in-Ok.statement)) [])) _ (ap (λ f. map (cell ls) (cond c.args.wanted (cells f) [])) e) c.put_wanted.ensures;
+      section = c.section_after.ensures ∙ ap (following_section c.args.section) e;
     }
 
 pub returns-in-Err : goal.returns-in-Err

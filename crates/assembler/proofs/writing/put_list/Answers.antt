@@ -12,13 +12,13 @@ pub loop-token-preserved : goal.loop-token-preserved
 loop-token-preserved c =
     let ls = map mark_of c.args.labels.now in
     let t = items_of (meant c.in-Some.token) in
-    let p = c.put-token.ensures in (
-      left_then c.args.written.now c.loop-token.written c.put-token.new.written (map (cell ls) t) (map (cell ls) (items (tokens c.loop-token.rest.now))) (map (cell ls) (items (tokens c.args.list.now))) (map (cell ls) (items (tokens c.in-Some.after.now))) c.loop-token.invariant.0
+    let p = c.put_token.ensures in (
+      left_then c.args.written.now c.loop-token.written c.put_token.new.written (map (cell ls) t) (map (cell ls) (items (tokens c.loop-token.rest.now))) (map (cell ls) (items (tokens c.args.list.now))) (map (cell ls) (items (tokens c.in-Some.after.now))) c.loop-token.invariant.0
           (ap (λ ts. map (cell ls) (items ts)) c.in-Some.ensures.tokens.0 ∙ map-append (cell ls) t (items (tokens c.in-Some.after.now))) p,
-      kept_then c.args.written.now c.loop-token.written c.put-token.new.written c.loop-token.invariant.1 p.kept,
+      kept_then c.args.written.now c.loop-token.written c.put_token.new.written c.loop-token.invariant.1 p.kept,
     )
 
 pub returns : goal.returns
 returns c =
     let ls = map mark_of c.args.labels.now in
-    puts_end c.args.written.now c.loop-token.written (map (cell ls) (items (tokens c.args.list.now))) (map (cell ls) (items (tokens c.loop-token.rest.now))) c.loop-token.invariant.0 (ap (λ ts. map (cell ls) (items ts)) c.in-default.ensures.tokens) c.loop-token.invariant.1
+    puts_end c.args.written.now c.loop-token.written (map (cell ls) (items (tokens c.args.list.now))) (map (cell ls) (items (tokens c.loop-token.rest.now))) c.loop-token.invariant.0 (ap (λ ts. map (cell ls) (items ts)) c.in_default.ensures.tokens) c.loop-token.invariant.1

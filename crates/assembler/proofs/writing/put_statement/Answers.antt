@@ -16,8 +16,8 @@ pub returns-in-Instruction : goal.returns-in-Instruction
 returns-in-Instruction c =
     let ls = map mark_of c.args.labels.now in
     let op = c.in-Instruction.op in
-    puts_as c.args.written.now c.put-instruction.new.written (pos (number op) ∷ map (cell ls) (argued c.in-Instruction.argument)) _
-    (ap (λ z. z ∷ map (cell ls) (argued c.in-Instruction.argument)) (opcode_cell op) ∙ sym (ap (λ t. map (cell ls) (cells (stated t))) c.in-Instruction.is)) c.put-instruction.ensures
+    puts_as c.args.written.now c.put_instruction.new.written (pos (number op) ∷ map (cell ls) (argued c.in-Instruction.argument)) _
+    (ap (λ z. z ∷ map (cell ls) (argued c.in-Instruction.argument)) (opcode_cell op) ∙ sym (ap (λ t. map (cell ls) (cells (stated t))) c.in-Instruction.is)) c.put_instruction.ensures
 
 pub returns-in-Copies : goal.returns-in-Copies
 returns-in-Copies c =
@@ -25,9 +25,9 @@ returns-in-Copies c =
     let z = numeral c.in-Copies.number.now in
     let k = times (numeral c.in-Copies.field-1.now) in
     let e = ap (λ t. map (cell ls) (cells (stated t))) c.in-Copies.is in
-    let n = c.cells-of.ensures ∙ ap (λ t. length (cells (stated t))) c.in-Copies.is ∙ length-replicate k (value z) in
-    puts_as c.args.written.now c.put-copies.new.written (map (cell ls) (replicate k (value z))) _ (sym e)
-    (copies_put ls c.args.written.now c.put-copies.new.written c.cells-of.result k _ z c.put-copies.ensures n (search (rules, to_z-of_z)))
+    let n = c.cells_of.ensures ∙ ap (λ t. length (cells (stated t))) c.in-Copies.is ∙ length-replicate k (value z) in
+    puts_as c.args.written.now c.put_copies.new.written (map (cell ls) (replicate k (value z))) _ (sym e)
+    (copies_put ls c.args.written.now c.put_copies.new.written c.cells_of.result k _ z c.put_copies.ensures n (search (rules, to_z-of_z)))
 
 pub returns-in-Empty : goal.returns-in-Empty
 returns-in-Empty c =

@@ -10,7 +10,7 @@ use Rattle.assembler.proofs.writing.put_token.Goals as goal
 pub returns-in-Text : goal.returns-in-Text
 returns-in-Text c =
     let ls = map mark_of c.args.labels.now in
-    puts_as c.args.written.now c.put-bytes.new.written (map pos c.in-Text.text.now) _ (cells_bytes ls c.in-Text.text.now ∙ sym (ap (λ t. map (cell ls) (items_of (meant t))) c.in-Text.is)) c.put-bytes.ensures
+    puts_as c.args.written.now c.put_bytes.new.written (map pos c.in-Text.text.now) _ (cells_bytes ls c.in-Text.text.now ∙ sym (ap (λ t. map (cell ls) (items_of (meant t))) c.in-Text.is)) c.put_bytes.ensures
 
 pub returns-in-Sign : goal.returns-in-Sign
 returns-in-Sign c =

@@ -16,9 +16,9 @@ returns c =
     let ys = both Data site library in
     let zs = both Heap site library in
     let a = c.args.written.now in
-    let b = c.write-both.new.written in
-    let d = c.write-both-2.new.written in
-    let e = c.write-both-3.new.written in
+    let b = c.write_both.new.written in
+    let d = c.write_both-2.new.written in
+    let e = c.write_both-3.new.written in
     puts_as a e (map (cell ls) xs ++ (map (cell ls) ys ++ map (cell ls) zs)) _
     (ap (λ vs. map (cell ls) xs ++ vs) (sym (map-append (cell ls) ys zs)) ∙ sym (map-append (cell ls) xs (ys ++ zs)))
-    (puts_then a b e (map (cell ls) xs) (map (cell ls) ys ++ map (cell ls) zs) c.write-both.ensures (puts_then b d e (map (cell ls) ys) (map (cell ls) zs) c.write-both-2.ensures c.write-both-3.ensures))
+    (puts_then a b e (map (cell ls) xs) (map (cell ls) ys ++ map (cell ls) zs) c.write_both.ensures (puts_then b d e (map (cell ls) ys) (map (cell ls) zs) c.write_both-2.ensures c.write_both-3.ensures))

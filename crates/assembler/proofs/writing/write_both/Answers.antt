@@ -11,8 +11,8 @@ pub returns : goal.returns
 returns c =
     let ls = map mark_of c.args.labels.now in
     let a = c.args.written.now in
-    let b = c.write-section.new.written in
-    let d = c.write-section-2.new.written in
+    let b = c.write_section.new.written in
+    let d = c.write_section-2.new.written in
     let xs = items_in c.args.want Code (forms c.args.site.now) in
     let ys = items_in c.args.want Code (forms c.args.library.now) in
-    puts_as a d _ _ (sym (map-append (cell ls) xs ys)) (puts_then a b d (map (cell ls) xs) (map (cell ls) ys) c.write-section.ensures c.write-section-2.ensures)
+    puts_as a d _ _ (sym (map-append (cell ls) xs ys)) (puts_then a b d (map (cell ls) xs) (map (cell ls) ys) c.write_section.ensures c.write_section-2.ensures)

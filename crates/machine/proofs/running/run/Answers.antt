@@ -10,7 +10,7 @@ invariant_of-machine g c =
     let m = c.args.machine.now in
     let e = c.run_live-report.ensures in
     let s = left_safe m.layout c.args.allowance (core m.registers c.args.memory.now) (core c.run_live-report.new.r c.run_live-report.new.memory) _ _ c.run_live-report.result.steps c.run_live-report.result.outcome e.after m.ordered m.floor m.low (omega arith) in
-    (m.ordered, (s.floor, (m.few, (omega arith, (omega arith, tt)))))
+    record { ordered = m.ordered; floor = s.floor; few = m.few; high = omega arith; low = omega arith }
 
 pub returns-in-Live : goal.returns-in-Live
 returns-in-Live g c =
