@@ -5,20 +5,20 @@ use Rattle.turns.proofs.run_turns.Goals as goal
 
 pub returns-in-ok-more : goal.returns-in-ok-more
 returns-in-ok-more g c =
-    let r = c.in-ok-report.report in
+    let r = c.in_ok-report.report in
     let m = c.in-ok-more.more in
     let a = c.args.first in
     let b = c.args.second in
     let t = c.together in
     done_as (a + b) _ _ _ _ _ _ (r.steps + m.steps) t.result.steps m.outcome t.result.outcome (sym t.ensures.steps) (sym t.ensures.outcome)
     (both_done a b _ _ _ _ _ _ r.steps _ _ _ m.steps m.outcome
-    (done_as a _ _ _ _ _ _ r.steps r.steps r.outcome Spent refl c.in-Spent.is c.in-ok-report.ensures)
+    (done_as a _ _ _ _ _ _ r.steps r.steps r.outcome Spent refl c.in-Spent.is c.in_ok-report.ensures)
     c.in-ok-more.ensures)
 
-pub returns-in-default : goal.returns-in-default
-returns-in-default g c =
-    let r = c.in-ok-report.report in
+pub returns-in_default : goal.returns-in_default
+returns-in_default g c =
+    let r = c.in_ok-report.report in
     let a = c.args.first in
     let b = c.args.second in
     done_as (a + b) _ _ _ _ _ _ r.steps c.from.result r.outcome r.outcome (sym c.from.ensures) refl
-    (one_done a b _ _ _ _ _ _ r.steps r.outcome c.in-default.not-Spent c.in-ok-report.ensures)
+    (one_done a b _ _ _ _ _ _ r.steps r.outcome c.in_default.not-Spent c.in_ok-report.ensures)
