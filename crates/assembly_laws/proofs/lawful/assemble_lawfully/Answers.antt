@@ -9,9 +9,9 @@ returns c =
     let site = c.args.site.now in
     let library = c.args.library.now in
     let before = handed c.args.memory.now c.args.labels.now c.args.units.now in
-    let after = handed c.assemble-once.new.memory c.assemble-once.new.labels c.assemble-once.new.units in
+    let after = handed c.assemble_once.new.memory c.assemble_once.new.labels c.assemble_once.new.units in
     let x = assembled site library (length before.memory) (length before.labels) (length before.units) in
     record {
-      outcome = c.assemble-once.ensures;
-      upheld = upheld site library c.assemble-once.result x before after (good_assembled site library (length before.memory) (length before.labels) (length before.units)) c.assemble-once.ensures;
+      outcome = c.assemble_once.ensures;
+      upheld = upheld site library c.assemble_once.result x before after (good_assembled site library (length before.memory) (length before.labels) (length before.units)) c.assemble_once.ensures;
     }

@@ -24,7 +24,7 @@ returns g c =
     let m = g.P.Port.meaning c.loop-line.port in
     let i = c.loop-line.invariant in
     record {
-      waiting = sym (offered_all m.waiting m.openings (lines c.loop-line.rest.now) c.in-default.ensures.lines) ∙ i.0;
+      waiting = sym (offered_all m.waiting m.openings (lines c.loop-line.rest.now) c.in_default.ensures.lines) ∙ i.0;
       shown = i.1;
       space = i.2;
     }

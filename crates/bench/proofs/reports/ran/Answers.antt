@@ -9,9 +9,9 @@ returns g c =
     report_joined
     (g.P.Port.meaning c.args.port.now).shown
     (text_of_outcome c.args.report.outcome c.args.report.steps c.args.pc)
-    _ _ c.as-bytes.result.now _ _
-    c.in-ok-bytes.ensures
-    c.in-ok-push.ensures.items
-    (c.as-bytes.ensures.value ∙ (simp (to_z-of_z, c.ranges.pc) at c.in-ok-text.ensures))
-    c.in-ok-extend-from-slice.ensures.items
-    c.in-ok-push-2.ensures.items
+    _ _ c.as_bytes.result.now _ _
+    c.in_ok-bytes.ensures
+    c.in_ok-push.ensures.items
+    (c.as_bytes.ensures.value ∙ (simp (to_z-of_z, c.ranges.pc) at c.in_ok-text.ensures))
+    c.in_ok-extend_from_slice.ensures.items
+    c.in_ok-push-2.ensures.items

@@ -7,18 +7,18 @@ use Rattle.bench.specs.Input.{numbers}
 use Rattle.bench.proofs.Assemblies.{sized, cells_is, bench_ok, bench_err}
 use Rattle.bench.proofs.reports.report.Goals as goal
 
-pub returns-in-err-labels : goal.returns-in-err-labels
-returns-in-err-labels c = IfOk-from_err c.from-residual-in-err-labels.result _ c.from-residual-in-err-labels.ensures.0
+pub returns-in_err-labels : goal.returns-in_err-labels
+returns-in_err-labels c = IfOk-from_err c.from_residual-in_err-labels.result _ c.from_residual-in_err-labels.ensures.0
 
-pub returns-in-err-units : goal.returns-in-err-units
-returns-in-err-units c = IfOk-from_err c.from-residual-in-err-units.result _ c.from-residual-in-err-units.ensures.0
+pub returns-in_err-units : goal.returns-in_err-units
+returns-in_err-units c = IfOk-from_err c.from_residual-in_err-units.result _ c.from_residual-in_err-units.ensures.0
 
 pub started-requires : goal.started-requires
 started-requires c =
     let site = c.split.result.site.now in
-    let memory = c.as-mut-slice-cells.result.now in
-    let labels = c.deref-mut.result.now in
-    let units = c.deref-mut-2.result.now in
+    let memory = c.as_mut_slice-cells.result.now in
+    let labels = c.deref_mut.result.now in
+    let units = c.deref_mut-2.result.now in
     let before = handed memory labels units in
     let after = handed c.assemble.new.memory c.assemble.new.labels c.assemble.new.units in
     let A = assembled site [] (length memory) (length labels) (length units) in
@@ -27,12 +27,12 @@ started-requires c =
 
 pub returns-in-Ok : goal.returns-in-Ok
 returns-in-Ok c =
-    let memory = c.as-mut-slice-cells.result.now in
-    let labels = c.deref-mut.result.now in
-    let units = c.deref-mut-2.result.now in
-    let n : length memory ≡ 1024 = c.as-mut-slice-cells.ensures.len ∙ c.in-ok-memory.ensures.len in
-    let l : length labels ≡ 512 = c.deref-mut.ensures.len ∙ c.in-ok-labels.ensures.len in
-    let u : length units ≡ 64 = c.deref-mut-2.ensures.len ∙ c.in-ok-units.ensures.len in
+    let memory = c.as_mut_slice-cells.result.now in
+    let labels = c.deref_mut.result.now in
+    let units = c.deref_mut-2.result.now in
+    let n : length memory ≡ 1024 = c.as_mut_slice-cells.ensures.len ∙ c.in_ok-memory.ensures.len in
+    let l : length labels ≡ 512 = c.deref_mut.ensures.len ∙ c.in_ok-labels.ensures.len in
+    let u : length units ≡ 64 = c.deref_mut-2.ensures.len ∙ c.in_ok-units.ensures.len in
     let after = handed c.assemble.new.memory c.assemble.new.labels c.assemble.new.units in
     let xs = numbers (lines c.split.result.readings.now) in
     let e =
@@ -43,12 +43,12 @@ returns-in-Ok c =
 
 pub returns : goal.returns
 returns c =
-    let memory = c.as-mut-slice-cells.result.now in
-    let labels = c.deref-mut.result.now in
-    let units = c.deref-mut-2.result.now in
-    let n : length memory ≡ 1024 = c.as-mut-slice-cells.ensures.len ∙ c.in-ok-memory.ensures.len in
-    let l : length labels ≡ 512 = c.deref-mut.ensures.len ∙ c.in-ok-labels.ensures.len in
-    let u : length units ≡ 64 = c.deref-mut-2.ensures.len ∙ c.in-ok-units.ensures.len in
+    let memory = c.as_mut_slice-cells.result.now in
+    let labels = c.deref_mut.result.now in
+    let units = c.deref_mut-2.result.now in
+    let n : length memory ≡ 1024 = c.as_mut_slice-cells.ensures.len ∙ c.in_ok-memory.ensures.len in
+    let l : length labels ≡ 512 = c.deref_mut.ensures.len ∙ c.in_ok-labels.ensures.len in
+    let u : length units ≡ 64 = c.deref_mut-2.ensures.len ∙ c.in_ok-units.ensures.len in
     let after = handed c.assemble.new.memory c.assemble.new.labels c.assemble.new.units in
     let e =
     bench_err c.args.input.now c.split.result.site.now (length memory) (length labels) (length units) (handed memory labels units) after c.split.ensures.site n l u

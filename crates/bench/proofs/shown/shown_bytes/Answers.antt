@@ -10,7 +10,7 @@ loop-byte-smaller g c =
     let i = vec_len c.loop-byte.bytes in
     let e : Some c.in-Some.byte ≡ slice_get xs i = cc c.in-Some.ensures in
     let h : i < length xs = nth_some xs i c.in-Some.byte e in
-    omega (arith, c.in-ok-push.ensures.len)
+    omega (arith, c.in_ok-push.ensures.len)
 
 pub loop-byte-preserved : goal.loop-byte-preserved
 loop-byte-preserved g c =
@@ -18,13 +18,13 @@ loop-byte-preserved g c =
     let i = vec_len c.loop-byte.bytes in
     let e : Some c.in-Some.byte ≡ slice_get xs i = cc c.in-Some.ensures in
     let h : i < length xs = nth_some xs i c.in-Some.byte e in
-    let p = c.in-ok-push.ensures in
+    let p = c.in_ok-push.ensures in
     (taken_more xs _ _ i _ c.in-Some.byte e c.loop-byte.invariant.0 p.items p.len, omega (arith, p.len))
 
 pub returns : goal.returns
 returns g c =
     let xs = (g.P.Port.meaning c.args.port.now).shown in
     let i = vec_len c.loop-byte.bytes in
-    let e : None ≡ slice_get xs i = cc c.in-default.ensures in
+    let e : None ≡ slice_get xs i = cc c.in_default.ensures in
     let h : length xs ≤ i = nth_none xs i e in
     c.loop-byte.invariant.0 ∙ take_all i xs h
