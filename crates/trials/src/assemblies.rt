@@ -216,7 +216,7 @@ pub(crate) fn write_refusal(
     site: &[u8],
     library: &[u8],
 ) -> anyhow::Result<()> {
-    let refusal = refusal_text(out.allocator(), fault)?;
+    let refusal = refusal_text(*out.allocator(), fault)?;
     out.push_str(refusal.as_str())?;
     write_place(out, fault.place())?;
     match source_line(fault, site, library) {

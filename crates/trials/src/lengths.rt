@@ -13,7 +13,7 @@ fn write_run<P: Port>(
     memory: &mut [i32],
     port: &mut P,
 ) -> anyhow::Result<()> {
-    let heap = out.allocator();
+    let heap = *out.allocator();
     let cells = memory.len();
     let text = match run(machine, memory, port, 100) {
         Ok(report) => outcome_text(heap, report, machine.registers().pc)?,
@@ -34,7 +34,7 @@ fn write_starts(
     match bench_start(program, other) {
         Ok(_) => out.push_str(" started over another memory.")?,
         Err(back) => {
-            let text = refusal_text(out.allocator(), back.fault)?;
+            let text = refusal_text(*out.allocator(), back.fault)?;
             write!(out, " start: {text}.")?;
             if let Ok(mut machine) = bench_start(back.program, memory) {
                 write_run(out, &mut machine, other, &mut port)?;

@@ -6,7 +6,7 @@ use std::alloc::Global;
 fn write_offers<P: Port>(out: &mut String, port: &mut P) -> anyhow::Result<()> {
     for value in 0..100 {
         if let Err(fault) = port.offer(Reading { value }) {
-            let text = refusal_text(out.allocator(), fault)?;
+            let text = refusal_text(*out.allocator(), fault)?;
             write!(out, " offer {value} {text}.")?;
             break;
         }
@@ -32,7 +32,7 @@ fn write_takes<P: Port>(out: &mut String, port: &mut P) -> anyhow::Result<()> {
 fn write_shows<P: Port>(out: &mut String, port: &mut P) -> anyhow::Result<()> {
     for byte in 0..100 {
         if let Err(fault) = port.show(byte) {
-            let text = refusal_text(out.allocator(), fault)?;
+            let text = refusal_text(*out.allocator(), fault)?;
             write!(out, " show {byte} {text}.")?;
             break;
         }

@@ -451,7 +451,7 @@ fn write_act<P: Port>(
     memory: &mut [i32],
     port: &mut P,
 ) -> anyhow::Result<()> {
-    let heap = out.allocator();
+    let heap = *out.allocator();
     let text = match act {
         Act::Run(allowance) => match run(machine, memory, port, allowance) {
             Ok(report) => outcome_text(heap, report, machine.registers().pc)?,
@@ -493,7 +493,7 @@ fn write_acts<P: Port>(
             write_shown(out, port)
         }
         Err(back) => {
-            let text = refusal_text(out.allocator(), back.fault)?;
+            let text = refusal_text(*out.allocator(), back.fault)?;
             write!(out, " {text}")?;
             Ok(())
         }
