@@ -1,4 +1,4 @@
-use check::check;
+use checker::check;
 use plan::Planned;
 use program::{Assembled, Counts, Name, Unit};
 use std::process::Abort;

@@ -10,8 +10,8 @@ use Rattle.program.specs.Faults.{refusal, refused}
 use Rattle.assembler.specs.Assembly.{Program}
 use Rattle.plan.specs.Lawful.{Table}
 use Rattle.plan.specs.Programs as Plan
-use Rattle.check.specs.declared.passed.Passed.{Passed}
-use Rattle.check.specs.Verdict.{Roomy, Answered, TooShort, OtherMemory, Unlawful}
+use Rattle.checker.specs.declared.passed.Passed.{Passed}
+use Rattle.checker.specs.Verdict.{Roomy, Answered, TooShort, OtherMemory, Unlawful}
 use Rattle.table.specs.Verdicts.{Passes, Gives, Checked}
 use Rattle.table.specs.Answers.{Accepts, Refuses, Answers}
 

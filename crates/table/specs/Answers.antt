@@ -8,8 +8,8 @@ use Rattle.program.specs.Faults.{refusal, refused}
 use Rattle.assembler.specs.Assembly.{Program}
 use Rattle.assembler.specs.Marks.{entry_of}
 use Rattle.plan.specs.Lawful.{Table}
-use Rattle.check.specs.declared.passed.Passed.{Passed}
-use Rattle.check.specs.Verdict.{Roomy, Answered}
+use Rattle.checker.specs.declared.passed.Passed.{Passed}
+use Rattle.checker.specs.Verdict.{Roomy, Answered}
 
 -- an answer accepts the program
 abbrev pub Accepts : Result Passed (Refused Assembled) → Type 0

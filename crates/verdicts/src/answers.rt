@@ -1,7 +1,7 @@
 use crate::table::{Change, CheckTrial};
 use assembler::assemble;
 use bench::{outcome_text, refusal_text};
-use check::{Passed, check, start};
+use checker::{Passed, check, start};
 use machine::{Machine, run};
 use plan::Planned;
 use port::BoardPort;

@@ -1,7 +1,7 @@
 use crate::answers::{STALE, STALE_VISIT, write_check, write_start};
 use crate::table::NET;
 use assembler::assemble;
-use check::Passed;
+use checker::Passed;
 use program::{Assembled, Label, Unit};
 use std::alloc::Global;
 
