@@ -75,7 +75,7 @@ pub(crate) fn write_check(
             Ok(passed)
         }
         Err(back) => {
-            let text = refusal_text(out.allocator(), back.fault)?;
+            let text = refusal_text(*out.allocator(), back.fault)?;
             write!(out, " {text}")?;
             Err(back.program)
         }
@@ -87,7 +87,7 @@ pub(crate) fn write_check(
 
 // Runs a machine for 100 steps at most, and writes the outcome.
 fn write_run(out: &mut String, machine: &mut Machine, memory: &mut [i32]) -> anyhow::Result<()> {
-    let heap = out.allocator();
+    let heap = *out.allocator();
     let text = match run(machine, memory, &mut BoardPort::new(), 100) {
         Ok(report) => outcome_text(heap, report, machine.registers().pc)?,
         Err(fault) => refusal_text(heap, fault)?,
@@ -108,7 +108,7 @@ pub(crate) fn write_start(
             Ok(None)
         }
         Err(back) => {
-            let text = refusal_text(out.allocator(), back.fault)?;
+            let text = refusal_text(*out.allocator(), back.fault)?;
             write!(out, "; start {text}")?;
             Ok(Some(back.program))
         }
