@@ -1,5 +1,5 @@
 -- What the arithmetic instructions make of cells.
-use Rattle.std.specs.Prelude.{ℕ, ◌^◌, Bool, true, false, cond, not, ◌&&◌, ◌||◌, ℤ, pos, negsuc, ◌+ℤ◌, ◌-ℤ◌, ◌*ℤ◌, neg_ℤ, Ok, Err, Result, ◌==◌, int_div, int_le, int_lt, int_rem, nat_lt}
+use Rattle.std.specs.Prelude.{◌^◌, Bool, true, false, cond, not, ◌&&◌, ◌||◌, ℤ, pos, negsuc, ◌+ℤ◌, ◌-ℤ◌, ◌*ℤ◌, neg_ℤ, Ok, Err, Result, ◌==◌, int_div, int_le, int_lt, int_rem, nat_lt}
 use Rattle.std.specs.Int.Signed.{mag}
 use Rattle.program.specs.declared.fault.MachineCause.{MachineCause}
 use Rattle.program.specs.declared.fault.MachineCause.TheVariants.{DivisorZero, Overflow}

@@ -1,5 +1,5 @@
 -- Cells put one after another, as far as there is room.
-use Rattle.std.proofs.Common.{◌≡◌, ℕ, zero, suc, ◌+◌, ◌-◌, ◌<◌, ◌≤◌, List, [], ◌∷◌, ◌++◌, map, length, take, replicate, ℤ, Ok, Err, Result, sym, refl, ap, ◌∙◌, append_assoc, arith, length-append, MatchResult}
+use Rattle.std.proofs.Common.{◌≡◌, ℕ, zero, suc, ◌+◌, ◌-◌, ◌<◌, ◌≤◌, List, [], ◌∷◌, ◌++◌, length, take, replicate, ℤ, Ok, Err, Result, sym, refl, ap, ◌∙◌, append_assoc, arith, length-append, MatchResult}
 use Rattle.std.proofs.lemmas.List.{take_all, take_at, append-nil, length-take-le}
 use Rattle.slots.specs.Items.{items, room, slots_of}
 use Rattle.slots.specs.declared.list.SlotList.{SlotList}

@@ -1,17 +1,16 @@
 -- What lists leave in their slots, and what assemble leaves.
-use Rattle.std.proofs.Common.{◌≡◌, ℕ, zero, suc, ◌+◌, ◌-◌, ◌≤◌, List, [], ◌∷◌, ◌++◌, map, length, take, replicate, ℤ, pos, Ok, Err, sym, refl, ap, ◌∙◌, subst, arith, length-append}
+use Rattle.std.proofs.Common.{◌≡◌, ℕ, zero, suc, ◌+◌, ◌-◌, List, [], ◌∷◌, ◌++◌, map, length, take, replicate, ℤ, pos, Ok, Err, sym, refl, ap, ◌∙◌, subst, arith, length-append}
 use Rattle.std.proofs.lemmas.List.{length-map, length-replicate, length-take-le, map-append}
-use Rattle.program.specs.Names.{name_of}
 use Rattle.program.specs.Records.{NoLabel, NoUnit}
 use Rattle.program.specs.declared.assembled.Assembled.{Assembled}
 use Rattle.program.specs.declared.fault.Fault.{Fault}
 use Rattle.program.specs.declared.label.Label.{Label}
 use Rattle.program.specs.declared.unit.Unit.{Unit as UnitRecord}
-use Rattle.slots.specs.Items.{items, room, slots_of}
+use Rattle.slots.specs.Items.{items, slots_of}
 use Rattle.slots.specs.declared.list.SlotList.{SlotList}
 use Rattle.assembler.specs.Assembly.{Assembly, program, unread, refusal}
 use Rattle.assembler.specs.Builds.{Builds, Refuses}
-use Rattle.assembler.specs.Handed.{Handed, Holds, Outcome, handed, padded}
+use Rattle.assembler.specs.Handed.{Handed, Outcome, padded}
 use Rattle.assembler.specs.Marks.{Mark, Entry, mark, entry, mark_of, entry_of, no_mark, no_entry}
 
 map_replicate : {X Y : Type 0} (f : X → Y) (n : ℕ) (x : X) → map f (replicate n x) ≡ replicate n (f x)

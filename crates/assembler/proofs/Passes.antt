@@ -1,5 +1,5 @@
 -- Both texts surveyed, one after the other.
-use Rattle.std.proofs.Common.{◌≡◌, ℕ, ◌+◌, ◌-◌, ◌≤◌, List, [], ◌∷◌, ◌++◌, map, length, take, replicate, ℤ, pos, Ok, Err, Result, sym, refl, ap, ◌∙◌, subst, arith, length-append}
+use Rattle.std.proofs.Common.{◌≡◌, ℕ, ◌-◌, ◌≤◌, List, [], ◌++◌, map, length, take, replicate, ℤ, pos, Ok, Err, Result, sym, refl, ap, ◌∙◌, subst, arith, length-append}
 use Rattle.std.proofs.lemmas.List.{length-map, take_all}
 use Rattle.std.proofs.lemmas.Bool.{le-leb}
 use Rattle.program.specs.declared.assembled.Assembled.{Assembled}
@@ -12,7 +12,7 @@ use Rattle.program.specs.declared.section.Section.TheVariants.{Code, Data, Heap}
 use Rattle.syntax.specs.Forms.{Form}
 use Rattle.assembler.specs.declared.tally.Tally.{Tally}
 use Rattle.assembler.specs.Assembly.{Assembly, first, second, fitted, linked, made, size}
-use Rattle.assembler.specs.Builds.{Builds, Made, Surveys}
+use Rattle.assembler.specs.Builds.{Builds, Made}
 use Rattle.assembler.specs.Cells.{all, both, cell, items_in, laid, opening}
 use Rattle.assembler.specs.Marks.{Mark, Entry}
 use Rattle.assembler.specs.Progress.{Puts}

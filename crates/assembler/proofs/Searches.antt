@@ -3,10 +3,8 @@ use Rattle.std.proofs.Common.{◌≡◌, ℕ, suc, ◌+◌, ◌<◌, ◌≤◌, 
 use Rattle.std.proofs.lemmas.List.{drop_more, drop_all}
 use Rattle.program.specs.Names.{same, name_of}
 use Rattle.program.specs.declared.label.Label.{Label}
-use Rattle.syntax.specs.Cells.{items, items_of}
 use Rattle.syntax.specs.Forms.{Item, byte, Form, form}
 use Rattle.syntax.specs.Lines.{lines}
-use Rattle.syntax.specs.Tokens.{Tok, tokens}
 use Rattle.assembler.specs.Assembly.{forms}
 use Rattle.assembler.specs.Cells.{known, all_known, resolved, unresolved}
 use Rattle.assembler.specs.Marks.{Mark, mark_of, find}

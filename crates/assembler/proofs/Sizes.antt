@@ -1,5 +1,5 @@
 -- The tally of surveyed lines counts the cells of each section.
-use Rattle.std.proofs.Common.{◌≡◌, ℕ, suc, ◌+◌, ◌<◌, ◌≤◌, Bool, true, false, cond, not, ltb, List, [], ◌∷◌, ◌++◌, map, length, Some, None, Option, sym, refl, ap, ◌∙◌, arith, length-append}
+use Rattle.std.proofs.Common.{◌≡◌, ℕ, suc, ◌+◌, Bool, true, false, cond, not, ltb, List, [], ◌∷◌, ◌++◌, map, length, Some, None, Option, sym, refl, ap, ◌∙◌, arith, length-append}
 use Rattle.program.specs.declared.fault.AssemblyCause.{AssemblyCause}
 use Rattle.program.specs.declared.fault.AssemblyCause.TheVariants.{LineBytes, NoForm, NumberRange, LateUnit, WrongSection, GivenTwice, ListFull}
 use Rattle.program.specs.declared.section.Section.{Section}
@@ -8,9 +8,9 @@ use Rattle.syntax.specs.Cells.{cells}
 use Rattle.syntax.specs.Forms.{Item, Form, foul, unfit, empty, section, unit, instruction, words, copies}
 use Rattle.syntax.specs.Ranges.{range}
 use Rattle.assembler.specs.declared.tally.Tally.{Tally}
-use Rattle.assembler.specs.Cells.{items_in, same_section, following_section, both, all}
+use Rattle.assembler.specs.Cells.{items_in, same_section, following_section}
 use Rattle.assembler.specs.Marks.{Mark, mark, Entry, entry, has}
-use Rattle.assembler.specs.Survey.{Survey, surveyed, Step, go, stop, demand, extent, octet, is_code, grown, grown_by, entered, adding, putting, declaring, taken, step, Surveyed, done, fault, survey}
+use Rattle.assembler.specs.Survey.{Survey, surveyed, Step, go, stop, demand, extent, octet, is_code, grown, grown_by, entered, adding, putting, declaring, taken, step, done, fault, survey}
 use Rattle.assembler.proofs.Written.{items_on}
 
 -- one line adds its cells to the section at hand

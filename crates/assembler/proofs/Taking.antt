@@ -1,5 +1,5 @@
 -- A line that is taken.
-use Rattle.std.proofs.Common.{◌≡◌, ℕ, Bool, List, length, Option, sym, refl, ap, ◌∙◌}
+use Rattle.std.proofs.Common.{◌≡◌, ℕ, Bool, List, length, Option, sym, ap, ◌∙◌}
 use Rattle.program.specs.declared.fault.AssemblyCause.TheVariants.{WrongSection}
 use Rattle.syntax.specs.Forms.{Form}
 use Rattle.syntax.specs.Cells.{cells}

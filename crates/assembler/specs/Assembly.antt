@@ -1,5 +1,5 @@
 -- What two texts assemble to.
-use Rattle.std.specs.Prelude.{ℕ, zero, suc, ◌+◌, ◌-◌, min, Bool, true, false, ◌&&◌, List, [], ◌∷◌, ◌++◌, map, length, replicate, ℤ, pos, nat_le}
+use Rattle.std.specs.Prelude.{ℕ, zero, suc, ◌+◌, ◌-◌, min, true, false, ◌&&◌, List, ◌++◌, map, length, replicate, ℤ, pos, nat_le}
 use Rattle.program.specs.declared.counts.Counts.{Counts}
 use Rattle.program.specs.declared.fault.AssemblyCause.{AssemblyCause}
 use Rattle.program.specs.declared.fault.AssemblyCause.TheVariants.{MemorySize, TextLength, ProgramSize, NoLabel}

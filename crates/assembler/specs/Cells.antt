@@ -1,10 +1,9 @@
 -- The cells of a program, once its labels have addresses.
-use Rattle.std.specs.Prelude.{ℕ, suc, ◌+◌, ◌^◌, Bool, true, false, List, [], ◌∷◌, ◌++◌, map, length, ℤ, pos, Some, None, Option, nat_lt}
+use Rattle.std.specs.Prelude.{ℕ, suc, ◌+◌, ◌^◌, Bool, true, false, List, [], ◌∷◌, ◌++◌, ℤ, pos, Some, None, Option, nat_lt}
 use Rattle.program.specs.Names.{smalls}
 use Rattle.program.specs.declared.section.Section.{Section}
 use Rattle.program.specs.declared.section.Section.TheVariants.{Code, Data, Heap}
 use Rattle.decimal.specs.Numbers.{cell_range}
-use Rattle.syntax.specs.Tokens.{Tok}
 use Rattle.syntax.specs.Forms.{Item, value, at, byte, Form, foul, unfit, empty, section, unit, instruction, words, copies}
 use Rattle.syntax.specs.Cells.{cells, items}
 use Rattle.assembler.specs.declared.tally.Tally.{Tally}

@@ -1,12 +1,12 @@
 -- What a call of assemble leaves in the memory and the slots that it was handed.
-use Rattle.std.specs.Prelude.{◌≡◌, ℕ, ◌-◌, List, [], ◌∷◌, ◌++◌, map, length, replicate, ℤ, pos, Ok, Err, Result}
+use Rattle.std.specs.Prelude.{◌≡◌, ℕ, ◌-◌, List, ◌++◌, map, length, replicate, ℤ, pos, Ok, Err, Result}
 use Rattle.program.specs.Faults as F
 use Rattle.program.specs.declared.assembled.Assembled.{Assembled}
 use Rattle.program.specs.declared.fault.Fault.{Fault}
 use Rattle.program.specs.declared.label.Label.{Label}
 use Rattle.program.specs.declared.unit.Unit.{Unit as UnitRecord}
 use Rattle.assembler.specs.Marks.{Mark, Entry, mark_of, entry_of, no_mark, no_entry}
-use Rattle.assembler.specs.Assembly.{Program, Assembly, program, unread, refusal}
+use Rattle.assembler.specs.Assembly.{Assembly, program, unread, refusal}
 
 -- memory, label slots and unit slots
 pub record Handed : Type 0 where

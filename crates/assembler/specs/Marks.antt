@@ -1,5 +1,5 @@
 -- Labels and units, and names looked for among them.
-use Rattle.std.specs.Prelude.{ℕ, Bool, true, false, List, [], ◌∷◌, map, Some, None, Option}
+use Rattle.std.specs.Prelude.{ℕ, Bool, true, false, List, [], ◌∷◌, Some, None, Option}
 use Rattle.program.specs.Names.{same, name_of}
 use Rattle.program.specs.declared.label.Label.{Label}
 use Rattle.program.specs.declared.section.Section.{Section}

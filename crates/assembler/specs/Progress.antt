@@ -1,5 +1,5 @@
 -- What the code's tally and lists stand for.
-use Rattle.std.specs.Prelude.{◌≡◌, ℕ, ◌+◌, ◌<◌, ◌≤◌, List, [], ◌∷◌, ◌++◌, map, length, take, replicate, ℤ, Ok, Err, Result}
+use Rattle.std.specs.Prelude.{◌≡◌, ℕ, ◌+◌, ◌≤◌, List, ◌++◌, map, length, take, replicate, ℤ, Ok, Err, Result}
 use Rattle.program.specs.declared.fault.AssemblyCause.{AssemblyCause}
 use Rattle.program.specs.declared.label.Label.{Label}
 use Rattle.program.specs.declared.unit.Unit.{Unit as UnitRecord}
@@ -8,7 +8,7 @@ use Rattle.slots.specs.declared.list.SlotList.{SlotList}
 use Rattle.assembler.specs.declared.tally.Tally.{Tally}
 use Rattle.assembler.specs.declared.tally.LineCause.{LineCause}
 use Rattle.assembler.specs.Marks.{Mark, Entry, mark_of, entry_of}
-use Rattle.assembler.specs.Survey.{Survey, surveyed, Step, go, stop, Surveyed, done, fault}
+use Rattle.assembler.specs.Survey.{surveyed, Step, go, stop, Surveyed, done, fault}
 
 -- the labels and the units of lists over slots
 abbrev pub marks : SlotList Label → List Mark

@@ -1,5 +1,5 @@
 -- The cells of surveyed lines in .CODE are whole instructions, one after another.
-use Rattle.std.proofs.Common.{◌≡◌, ℕ, suc, ◌+◌, ◌-◌, ◌<◌, ◌≤◌, Bool, true, false, cond, not, List, [], ◌∷◌, ◌++◌, map, length, get_or, drop, ℤ, pos, Some, None, Option, sym, refl, ap, ◌∙◌, subst, append_assoc, arith, length-append}
+use Rattle.std.proofs.Common.{◌≡◌, ℕ, suc, ◌+◌, ◌-◌, ◌≤◌, Bool, true, false, cond, not, List, [], ◌∷◌, ◌++◌, map, length, get_or, drop, ℤ, pos, Some, None, sym, refl, ap, ◌∙◌, subst, append_assoc, arith, length-append}
 use Rattle.std.proofs.lemmas.List.{append-nil, drop_at, drop-drop, get_or-drop, length-drop, length-map, map-append}
 use Rattle.std.proofs.lemmas.Bool.{le-leb, lt-ltb}
 use Rattle.program.specs.declared.fault.AssemblyCause.{AssemblyCause}
@@ -8,16 +8,15 @@ use Rattle.program.specs.declared.section.Section.{Section}
 use Rattle.program.specs.declared.section.Section.TheVariants as S
 use Rattle.isa.specs.Code.{Divides, Divided, first, next, argument, whole}
 use Rattle.isa.specs.Code as C
-use Rattle.isa.specs.Table.{operand_cells, decoded, number, operand, size}
-use Rattle.isa.specs.declared.instruction.Instruction.{Instruction}
+use Rattle.isa.specs.Table.{operand_cells, decoded, number, operand}
 use Rattle.isa.specs.declared.opcode.Opcode.{Opcode}
 use Rattle.isa.specs.declared.opcode.Opcode.TheVariants.{Push, Add, Sub, Mul, Div, Mod, Neg, And, Or, Not, Eq, Ne, Lt, Gt, Le, Ge, Dup, Pop, Swap, Jump, Bf, Bt, Nop, Read, Bprint, Cprint, Iprint, Sprint, Prnln, Load, Store, Loadref, Storeref, Deref, Call, Loadfp, Loadsp, Storefp, Rmem, Fmem, Ret, Halt, Loadpc, Storepc, Storesp, Loadhp, Storehp, Loadhl, Storehl}
 use Rattle.syntax.specs.Cells.{cells}
 use Rattle.syntax.specs.Forms.{Item, value, Form, foul, unfit, empty, section, unit, instruction, words, copies, form}
 use Rattle.syntax.specs.Ranges.{range}
-use Rattle.assembler.specs.Cells.{cell, items_in, same_section, following_section, both}
+use Rattle.assembler.specs.Cells.{cell, items_in, same_section, following_section}
 use Rattle.assembler.specs.Marks.{Mark}
-use Rattle.assembler.specs.Survey.{Survey, Step, go, stop, demand, is_code, putting, taken, step, Surveyed, done, fault, survey}
+use Rattle.assembler.specs.Survey.{Survey, Step, go, stop, demand, is_code, putting, taken, step, done, fault, survey}
 use Rattle.assembler.proofs.Sizes.{step_counts}
 use Rattle.assembler.proofs.Written.{items_on, opcode_cell}
 use Rattle.assembly_laws.proofs.Fitting.{Fits, fits_form}

@@ -1,5 +1,5 @@
 -- An instruction that a line spells has the argument that its operand asks for.
-use Rattle.std.proofs.Common.{◌≡◌, ℕ, Bool, true, false, ◌&&◌, leb, List, [], ◌∷◌, length, ℤ, Some, None, codes, Option, sym, refl, ap, ◌∙◌}
+use Rattle.std.proofs.Common.{◌≡◌, ℕ, Bool, true, false, ◌&&◌, leb, List, [], ◌∷◌, length, ℤ, Some, None, codes, Option, refl}
 use Rattle.program.specs.Names.{same}
 use Rattle.program.specs.declared.section.Section.{Section}
 use Rattle.isa.specs.Table.{operand_cells, named, operand}
@@ -7,7 +7,7 @@ use Rattle.isa.specs.declared.opcode.Opcode.{Opcode}
 use Rattle.isa.specs.declared.opcode.Operand.{Operand}
 use Rattle.isa.specs.declared.opcode.Operand.TheVariants.{Absent, Value, Target, Count, Number}
 use Rattle.syntax.specs.Bytes.{every, plain}
-use Rattle.syntax.specs.Forms.{Item, Form, foul, unfit, empty, section, unit, instruction, words, copies, ended, on_name, then_name, on_number, then_number, is_sign_token, then_sign, then_further, unit_form, section_of_name, directive_of, directive, is_list, listed, copies_form, is_dup_token, data_form, on_value, then_argument, instruction_form, operation, labelled, spelled, form}
+use Rattle.syntax.specs.Forms.{Form, foul, unfit, empty, section, unit, instruction, words, copies, ended, on_name, then_name, on_number, then_number, is_sign_token, then_sign, then_further, unit_form, section_of_name, directive_of, directive, is_list, listed, copies_form, is_dup_token, data_form, on_value, then_argument, instruction_form, operation, labelled, spelled, form}
 use Rattle.syntax.specs.Tokens.{Tok, name, number, character, text, sign, tokens}
 
 -- an instruction has as many items as its operand takes cells

@@ -1,5 +1,5 @@
 -- The labels of surveyed lines: each stands where the items of its line begin, and no two have one name.
-use Rattle.std.proofs.Common.{◌≡◌, ℕ, zero, suc, ◌+◌, ◌<◌, ◌≤◌, Bool, true, false, cond, not, eqb, ltb, List, [], ◌∷◌, ◌++◌, map, length, Some, None, Option, sym, refl, ap, ◌∙◌, subst, append_assoc, arith, length-append}
+use Rattle.std.proofs.Common.{◌≡◌, ℕ, suc, ◌+◌, Bool, true, false, cond, not, eqb, ltb, List, [], ◌∷◌, ◌++◌, map, length, Some, None, Option, sym, refl, ap, ◌∙◌, subst, append_assoc, arith, length-append}
 use Rattle.std.proofs.lemmas.List.{append-nil, map-append}
 use Rattle.std.proofs.lemmas.Bool.{eq-eqb, eqb-false, eqb-true, ne_eqb, not-true}
 use Rattle.program.specs.Names.{same}
@@ -14,7 +14,7 @@ use Rattle.syntax.specs.Ranges.{range}
 use Rattle.assembler.specs.declared.tally.Tally.{Tally}
 use Rattle.assembler.specs.Cells.{items_in, same_section, following_section}
 use Rattle.assembler.specs.Marks.{Mark, mark, Entry, entry, has}
-use Rattle.assembler.specs.Survey.{Survey, surveyed, Step, go, stop, demand, extent, octet, is_code, grown, entered, adding, putting, declaring, taken, step, Surveyed, done, fault, survey}
+use Rattle.assembler.specs.Survey.{Survey, surveyed, Step, go, stop, demand, extent, octet, is_code, grown, entered, adding, putting, declaring, taken, step, done, fault, survey}
 use Rattle.assembler.proofs.Sizes.{step_counts}
 use Rattle.assembler.proofs.Written.{items_on}
 use Rattle.assembly_laws.specs.Laws.{Each, Distinct, label_in}

@@ -1,5 +1,5 @@
 -- Every program that two texts assemble to is sound.
-use Rattle.std.proofs.Common.{◌≡◌, ℕ, zero, suc, ◌+◌, ◌-◌, ◌^◌, ◌<◌, ◌≤◌, min, Bool, true, false, ◌&&◌, ltb, leb, List, [], ◌∷◌, ◌++◌, map, length, take, drop, replicate, ℤ, pos, Some, Ok, Err, Result, sym, refl, ap, ◌∙◌, subst, append_assoc, arith, length-append}
+use Rattle.std.proofs.Common.{◌≡◌, ℕ, zero, suc, ◌+◌, ◌-◌, ◌^◌, ◌<◌, ◌≤◌, min, Bool, true, false, ◌&&◌, leb, List, [], ◌∷◌, ◌++◌, map, length, take, drop, replicate, ℤ, pos, Ok, Err, Result, sym, refl, ap, ◌∙◌, subst, append_assoc, arith, length-append}
 use Rattle.std.proofs.lemmas.List.{append-nil, drop_at, length-map, map-append, take_at}
 use Rattle.std.proofs.lemmas.Bool.{and_parts, leb-true, lt-ltb}
 use Rattle.program.specs.declared.assembled.Assembled.{Assembled}
@@ -8,24 +8,22 @@ use Rattle.program.specs.declared.fault.AssemblyCause.{AssemblyCause}
 use Rattle.program.specs.declared.fault.AssemblyCause.TheVariants.{MemorySize, TextLength, ProgramSize, NoLabel}
 use Rattle.program.specs.declared.fault.Fault.{Fault}
 use Rattle.program.specs.declared.fault.Place.TheVariants.{Nowhere, Line}
-use Rattle.program.specs.declared.fault.Text.{Text}
 use Rattle.program.specs.declared.fault.Text.TheVariants.{Site, Library}
 use Rattle.program.specs.declared.section.Section.{Section}
 use Rattle.program.specs.declared.section.Section.TheVariants.{Code, Data, Heap}
 use Rattle.isa.specs.Code.{Divided}
 use Rattle.syntax.specs.Cells.{cells}
 use Rattle.syntax.specs.Forms.{Item, Form, form}
-use Rattle.syntax.specs.Lines.{lines, line_at}
+use Rattle.syntax.specs.Lines.{lines}
 use Rattle.assembler.specs.declared.tally.Tally.{Tally}
 use Rattle.assembler.specs.Assembly.{Assembly, program, unread, refusal, assembled, first, fitted, forms, linked, made, second, size}
 use Rattle.assembler.specs.Cells.{all, base, both, cell, items_in, laid, unresolved, word}
 use Rattle.assembler.specs.Handed.{Handed, Outcome}
 use Rattle.assembler.specs.Marks.{Mark, mark_of, no_mark}
-use Rattle.assembler.specs.Sources.{text_of}
 use Rattle.assembler.specs.Survey.{Survey, Surveyed, done, extent, fault, fresh, opened, survey, surveyed}
 use Rattle.assembler.proofs.Passes.{texts_taken}
 use Rattle.assembler.proofs.Sizes.{survey_counts}
-use Rattle.assembly_laws.specs.Laws.{Distinct, Each, Sound, Stands, Upheld, label_in}
+use Rattle.assembly_laws.specs.Laws.{Distinct, Each, Sound, Stands, Upheld}
 use Rattle.assembly_laws.proofs.Dividing.{Runs, runs_append, runs_divide, survey_runs}
 use Rattle.assembly_laws.proofs.Placing.{Found, Labels, each_append, each_as, each_map, survey_labels}
 

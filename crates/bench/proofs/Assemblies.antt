@@ -1,5 +1,5 @@
 -- What the bench makes of an assembly.
-use Rattle.std.proofs.Common.{◌≡◌, ℕ, zero, suc, Bool, true, false, ◌&&◌, leb, List, [], length, Ok, Err, Result, sym, refl, ap, ◌∙◌}
+use Rattle.std.proofs.Common.{◌≡◌, ℕ, zero, suc, Bool, true, false, ◌&&◌, leb, List, [], length, Ok, Err, refl, ap, ◌∙◌}
 use Rattle.program.specs.Faults as F
 use Rattle.program.specs.declared.counts.Counts.{Counts}
 use Rattle.program.specs.declared.assembled.Assembled.{Assembled}
@@ -7,7 +7,7 @@ use Rattle.program.specs.declared.fault.Fault.{Fault}
 use Rattle.port.specs.declared.reading.Reading.{Reading}
 use Rattle.syntax.specs.Forms.{Form}
 use Rattle.assembler.specs.Assembly.{Assembly, program, unread, refusal, size, forms, linked, fitted, second, first, assembled}
-use Rattle.assembler.specs.Cells.{unresolved, laid}
+use Rattle.assembler.specs.Cells.{unresolved}
 use Rattle.assembler.specs.Handed.{Handed, Outcome}
 use Rattle.assembler.specs.Marks.{Mark}
 use Rattle.assembler.specs.Survey.{Survey, Surveyed, done, fault, survey, surveyed, opened, fresh}

@@ -1,10 +1,10 @@
 -- Lines taken from the front of the input one by one.
-use Rattle.std.proofs.Common.{◌≡◌, ℕ, ◌+◌, ◌-◌, ◌<◌, ◌≤◌, Bool, true, false, ◌⊎◌, List, [], ◌∷◌, length, take, drop, sym, refl, ap, ◌∙◌, inl, inr, ⊎_elim, add-one, arith}
+use Rattle.std.proofs.Common.{◌≡◌, ℕ, ◌+◌, ◌-◌, ◌<◌, ◌≤◌, Bool, true, false, List, [], ◌∷◌, length, take, drop, sym, refl, ap, ◌∙◌, ⊎_elim, arith}
 use Rattle.std.proofs.lemmas.List.{length-drop, drop-drop, drop_all, take_all}
 use Rattle.std.proofs.lemmas.Bool.{cases_lt}
 use Rattle.syntax.specs.Bytes.{front, after}
-use Rattle.syntax.specs.Lines.{lines, not_end}
-use Rattle.bench.specs.Input.{is_dot_text, before, beyond, extent, site_of}
+use Rattle.syntax.specs.Lines.{not_end}
+use Rattle.bench.specs.Input.{is_dot_text, before, beyond, extent}
 
 -- what follows a front is the list without it
 pub after_is : (p : ℕ → Bool) (xs : List ℕ) → after p xs ≡ drop (length (front p xs)) xs

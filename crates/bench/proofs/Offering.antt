@@ -1,5 +1,5 @@
 -- Numbers that are offered line by line.
-use Rattle.std.proofs.Common.{◌≡◌, ℕ, zero, suc, ◌+◌, List, [], ◌∷◌, ◌++◌, take, ℤ, Ok, Err, Result, sym, refl, ap, ◌∙◌, append_assoc, add-one, arith}
+use Rattle.std.proofs.Common.{◌≡◌, ℕ, List, [], ◌∷◌, ◌++◌, take, ℤ, Ok, Err, Result, sym, refl, ap, ◌∙◌, append_assoc, add-one, arith}
 use Rattle.std.proofs.lemmas.List.{append-nil, take_all}
 use Rattle.program.specs.declared.fault.Fault.{Fault}
 use Rattle.decimal.specs.Reading.{read_as}

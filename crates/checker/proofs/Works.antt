@@ -14,7 +14,7 @@ use Rattle.plan.specs.declared.successor.Successor.{Successor}
 use Rattle.plan.specs.Programs.{Program, Listed, Opens, Sits}
 use Rattle.plan.specs.Rules.{Steps, to as goes}
 use Rattle.plan.specs.Lawful.{Plan, planned, Has, Holds, main, unit, Lawful, Least, Table, plan_of}
-use Rattle.plan.specs.Walks.{In, root, on}
+use Rattle.plan.specs.Walks.{In, on}
 use Rattle.plan.specs.Causes.{AtPlace, Due, Turn, Sound}
 use Rattle.plan.specs.Rulings.{Ruled, LowIn}
 use Rattle.plan.proofs.Dividing.{scan_none}

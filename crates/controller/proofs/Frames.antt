@@ -3,7 +3,7 @@ use Rattle.std.proofs.Common.{◌≡◌, ℕ, zero, suc, ◌+◌, ◌-◌, ◌<�
 use Rattle.std.proofs.lemmas.Int.{ints}
 use Rattle.std.proofs.lemmas.List.{get_or-set_same, get_or-set_other, take-set-le}
 use Rattle.isa.specs.declared.opcode.Opcode.TheVariants as O
-use Rattle.instructions.specs.Core.{Core, goes, cell, top}
+use Rattle.instructions.specs.Core.{Core, goes, top}
 use Rattle.instructions.specs.Moves.{at_pc, at_fp, put, popped, pushed}
 use Rattle.machine.specs.Step.{performed}
 use Rattle.plan.specs.Lawful.{Plan, Lawful, unit}

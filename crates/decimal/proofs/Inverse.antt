@@ -1,12 +1,12 @@
 -- Reading is the inverse of spelling.
-use Rattle.std.proofs.Common.{◌≡◌, ℕ, suc, ◌-◌, ◌<◌, ◌≤◌, Bool, true, false, eqb, List, [], ◌∷◌, length, ℤ, pos, negsuc, neg_ℤ, Ok, Err, decimal, refl, ap, ◌∙◌, arith, w32, SFits, rules}
+use Rattle.std.proofs.Common.{◌≡◌, ℕ, suc, ◌<◌, ◌≤◌, Bool, true, false, eqb, List, [], ◌∷◌, length, ℤ, pos, negsuc, neg_ℤ, Ok, Err, decimal, refl, ap, ◌∙◌, arith, w32, SFits, rules}
 use Rattle.std.specs.Fmt.{signed_decimal}
 use Rattle.std.proofs.lemmas.Fmt.{decimal_nonempty, digits_decimal, digits_value-decimal}
 use Rattle.std.proofs.lemmas.Str.Parse.{IsNumeralModel, numerals_by_fold}
 use Rattle.std.proofs.lemmas.Int.{ints}
 use Rattle.std.proofs.lemmas.Bool.Decides.{nat_tests}
 use Rattle.decimal.specs.declared.reading.NumberError.TheVariants.{NoNumber}
-use Rattle.decimal.specs.Numbers.{digit, only_digits, natural, cell_range, is_numeral_text, numeral}
+use Rattle.decimal.specs.Numbers.{only_digits, natural, cell_range, is_numeral_text, numeral}
 use Rattle.decimal.specs.Reading.{read_as}
 
 own : IsNumeralModel (λ ds. only_digits ds ≡ true) (natural 0)

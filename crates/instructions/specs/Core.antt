@@ -1,5 +1,5 @@
 -- Registers and memory, and what an instruction comes to.
-use Rattle.std.specs.Prelude.{ℕ, ◌+◌, ◌≤◌, List, [], ◌∷◌, length, ℤ, pos, slice_index_or}
+use Rattle.std.specs.Prelude.{ℕ, ◌+◌, ◌≤◌, List, ℤ, pos, slice_index_or}
 use Rattle.program.specs.declared.fault.MachineCause.{MachineCause}
 use Rattle.instructions.specs.declared.registers.Registers.{Registers}
 

@@ -7,7 +7,7 @@ use Rattle.instructions.specs.declared.effect.Text.{Text}
 use Rattle.instructions.specs.declared.effect.Text.TheVariants.{Byte, Flag, Number}
 use Rattle.instructions.specs.declared.effect.Effect.{Effect}
 use Rattle.instructions.specs.declared.effect.Effect.TheVariants.{Done, Halt, Take, Show, Spell}
-use Rattle.instructions.specs.Core.{Core, Next, Act, goes, halts, takes, shows, faults, core}
+use Rattle.instructions.specs.Core.{Next, Act, goes, halts, takes, shows, faults, core}
 use Rattle.instructions.specs.Moves.{put}
 use Rattle.instructions.specs.Stack.{spelled}
 

@@ -1,12 +1,12 @@
 -- One line an instruction: at is its address, k its argument cell, and pc stands past it already.
-use Rattle.std.specs.Prelude.{ℕ, cond, List, [], ◌∷◌, ℤ, pos, ◌-ℤ◌}
+use Rattle.std.specs.Prelude.{cond, [], ◌∷◌, ℤ, pos, ◌-ℤ◌}
 use Rattle.arithmetic.specs.Cells.{binary, unary, is_zero}
 use Rattle.arithmetic.specs.declared.operation.Binary.TheVariants as B
 use Rattle.arithmetic.specs.declared.operation.Unary.TheVariants as U
 use Rattle.instructions.specs.declared.layout.Layout.{Layout}
 use Rattle.isa.specs.declared.opcode.Opcode.{Opcode}
 use Rattle.isa.specs.declared.opcode.Opcode.TheVariants.{Push, Add, Sub, Mul, Div, Mod, Neg, And, Or, Not, Eq, Ne, Lt, Gt, Le, Ge, Dup, Pop, Swap, Jump, Bf, Bt, Nop, Read, Bprint, Cprint, Iprint, Sprint, Prnln, Load, Store, Loadref, Storeref, Deref, Call, Loadfp, Loadsp, Storefp, Rmem, Fmem, Ret, Halt, Loadpc, Storepc, Storesp, Loadhp, Storehp, Loadhl, Storehl}
-use Rattle.instructions.specs.Core.{Core, Next, Act, goes, halts, takes, shows, top}
+use Rattle.instructions.specs.Core.{Act, goes, halts, takes, shows, top}
 use Rattle.instructions.specs.Tests.{uses, room}
 use Rattle.instructions.specs.Moves.{at_pc, at_fp, at_hp}
 use Rattle.instructions.specs.Stack.{joins, turns, pushes, pops, swaps, loads, stores, fetches, assigns, jumps, calls, reserves, releases, returns, tops, limits, flags, letters, numbers, strings}

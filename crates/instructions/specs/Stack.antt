@@ -1,13 +1,13 @@
 -- What the instructions share. pc stands past the instruction already.
-use Rattle.std.specs.Prelude.{ℕ, ◌+◌, ◌-◌, ◌≤◌, Bool, true, false, cond, not, ltb, leb, List, [], ◌∷◌, length, ℤ, pos, negsuc, ◌+ℤ◌, ◌-ℤ◌, Result}
+use Rattle.std.specs.Prelude.{ℕ, ◌+◌, ◌-◌, Bool, true, false, cond, not, List, [], ◌∷◌, length, ℤ, pos, ◌+ℤ◌, Result}
 use Rattle.std.specs.Fmt.{signed_decimal}
 use Rattle.program.specs.declared.fault.MachineCause.{MachineCause}
 use Rattle.program.specs.declared.fault.MachineCause.TheVariants.{StackPointer, HeapLimit}
 use Rattle.arithmetic.specs.Cells.{is_zero}
 use Rattle.instructions.specs.declared.layout.Layout.{Layout}
-use Rattle.instructions.specs.Core.{Core, Next, Act, goes, shows, cell, top, under}
+use Rattle.instructions.specs.Core.{Core, Act, goes, shows, cell, top, under}
 use Rattle.instructions.specs.Tests.{counted, uses, room, placed, in_use, refers, fine, character}
-use Rattle.instructions.specs.Moves.{at_pc, at_sp, at_fp, at_limit, put, popped, pushed}
+use Rattle.instructions.specs.Moves.{at_pc, at_sp, at_limit, put, popped, pushed}
 
 -- M[sp + 1] := op(M[sp + 1], M[sp]); sp := sp + 1
 abbrev pub joins : (ℤ → ℤ → Result ℤ MachineCause) → Act

@@ -1,10 +1,10 @@
 -- The tests that instructions make, each with its fault.
-use Rattle.std.specs.Prelude.{ℕ, ◌+◌, ◌-◌, ◌≤◌, Bool, true, false, cond, ◌&&◌, List, [], ◌∷◌, length, ℤ, pos, negsuc, ◌+ℤ◌, Ok, Err, Result, nat_le, nat_lt}
+use Rattle.std.specs.Prelude.{ℕ, ◌+◌, cond, ◌&&◌, length, ℤ, pos, negsuc, ◌+ℤ◌, Ok, Err, Result, nat_le, nat_lt}
 use Rattle.program.specs.declared.fault.MachineCause.{MachineCause}
 use Rattle.program.specs.declared.fault.MachineCause.TheVariants.{NegativeCount, StackUnderflow, OutsideStack, StackMeetsHeap, NullReference, ReferenceRange, NoCharacter}
 use Rattle.arithmetic.specs.Cells.{is_zero}
 use Rattle.instructions.specs.declared.layout.Layout.{Layout}
-use Rattle.instructions.specs.Core.{Core, Next, Act, faults}
+use Rattle.instructions.specs.Core.{Act, faults}
 
 -- 23
 abbrev pub counted : ℤ → (ℕ → Act) → Act

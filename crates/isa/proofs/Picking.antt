@@ -1,5 +1,5 @@
 -- The opcode at a place of the table.
-use Rattle.std.proofs.Common.{◌≡◌, ℕ, zero, suc, ◌-◌, ◌<◌, ◌≤◌, List, [], ◌∷◌, length, get_or, ℤ, pos, Some, None, Option, sym, refl, ap, ◌∙◌, suc-le-suc, arith}
+use Rattle.std.proofs.Common.{◌≡◌, ℕ, zero, suc, ◌-◌, ◌<◌, ◌≤◌, List, [], ◌∷◌, length, get_or, pos, Some, None, refl, ap, ◌∙◌, arith}
 use Rattle.isa.specs.Table.{nth, picked}
 
 nth_past : {X : Type 0} (xs : List X) (n : ℕ) → length xs ≤ n → None ≡ nth xs n

@@ -1,5 +1,5 @@
 -- An instruction by what its opcode takes.
-use Rattle.std.proofs.Common.{◌≡◌, ℕ, suc, ◌+◌, ◌<◌, Bool, true, false, cond, ltb, leb, List, length, get_or, ℤ, pos, Some, None, Option, sym, refl, ap, ◌∙◌, arith}
+use Rattle.std.proofs.Common.{◌≡◌, ℕ, suc, ◌+◌, ◌<◌, Bool, true, false, cond, leb, List, length, get_or, ℤ, pos, Some, None, refl, ap, ◌∙◌, arith}
 use Rattle.std.proofs.lemmas.Bool.{le-leb, lt-ltb}
 use Rattle.isa.specs.declared.opcode.Opcode.{Opcode}
 use Rattle.isa.specs.declared.opcode.Operand.{Operand}
@@ -7,7 +7,6 @@ use Rattle.isa.specs.declared.opcode.Operand.TheVariants.{Absent, Value, Target,
 use Rattle.isa.specs.declared.instruction.Instruction.{Instruction}
 use Rattle.isa.specs.Code.{argument, instruction, whole}
 use Rattle.isa.specs.Table.{operand_cells, decoded, operand, size}
-use Rattle.machine.specs.declared.fetch.Fetched.{Fetched}
 use Rattle.machine.specs.Fetch.{followed, longer}
 
 follow_cond : (b : Bool) (a : ℕ) (i : Instruction) → followed a (cond b (Some i) None) ≡ cond b (Some (record { op = i.op; argument = i.argument; next = pos (a + size i.op) })) None

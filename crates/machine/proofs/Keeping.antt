@@ -1,5 +1,5 @@
 -- What every instruction keeps: the code's cells, and the order of code, data, heap and stack.
-use Rattle.std.proofs.Common.{◌≡◌, ℕ, zero, suc, ◌+◌, ◌-◌, ◌<◌, ◌≤◌, Bool, true, false, cond, ◌&&◌, ltb, leb, List, [], ◌∷◌, length, take, set, ℤ, pos, negsuc, ◌+ℤ◌, Some, None, Ok, Err, Option, Result, sym, refl, ap, ◌∙◌, subst, arith, length-set, rules}
+use Rattle.std.proofs.Common.{◌≡◌, ℕ, zero, suc, ◌+◌, ◌≤◌, leb, List, [], ◌∷◌, length, take, ℤ, pos, negsuc, Some, None, Ok, Err, Option, Result, sym, refl, ◌∙◌, subst, arith, length-set, rules}
 use Rattle.std.proofs.lemmas.List.{take-set-le}
 use Rattle.std.proofs.lemmas.Bool.{cond_both, leb-true}
 use Rattle.std.proofs.lemmas.Bool.Decides.{nat_tests}
@@ -12,7 +12,7 @@ use Rattle.arithmetic.specs.declared.operation.Unary.TheVariants as U
 use Rattle.isa.specs.declared.opcode.Opcode.{Opcode}
 use Rattle.isa.specs.declared.opcode.Opcode.TheVariants as O
 use Rattle.instructions.specs.declared.layout.Layout.{Layout}
-use Rattle.instructions.specs.Core.{Core, Next, Act, goes, halts, takes, shows, faults, core, cell, top, under}
+use Rattle.instructions.specs.Core.{Core, Next, Act, goes, halts, takes, shows, faults, top, under}
 use Rattle.instructions.specs.Exec.{exec}
 use Rattle.instructions.specs.Moves.{at_pc, popped, pushed, put}
 use Rattle.instructions.specs.Stack.{joins, returns, turns}

@@ -1,5 +1,5 @@
 -- One step, and a run one step on.
-use Rattle.std.proofs.Common.{◌≡◌, ℕ, suc, ◌+◌, List, take, ℤ, Some, None, Option, sym, refl, ap, ◌∙◌}
+use Rattle.std.proofs.Common.{◌≡◌, ℕ, suc, ◌+◌, List, take, ℤ, Option, sym, refl, ap, ◌∙◌}
 use Rattle.machine.specs.declared.outcome.Outcome.TheVariants.{Spent}
 use Rattle.machine.specs.Run.{runs, ran, then}
 use Rattle.machine.specs.declared.fetch.Fetched.{Fetched}

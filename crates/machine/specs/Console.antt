@@ -1,5 +1,5 @@
 -- What the machine sees of a port.
-use Rattle.std.specs.Prelude.{◌≡◌, ℕ, ◌+◌, ◌-◌, ◌≤◌, List, [], ◌∷◌, ◌++◌, length}
+use Rattle.std.specs.Prelude.{ℕ, ◌-◌, List, ◌++◌, length}
 use Rattle.port.specs.declared.reading.Reading.{Reading}
 use Rattle.port.specs.Meaning.{Meaning}
 

@@ -1,5 +1,5 @@
 -- A program at its start.
-use Rattle.std.specs.Prelude.{◌≡◌, ℕ, ◌+◌, List, length, ℤ, pos, ◌-ℤ◌, Ok, Err, Result, ◌≢◌}
+use Rattle.std.specs.Prelude.{◌≡◌, ◌+◌, List, length, ℤ, pos, ◌-ℤ◌, Ok, Err, Result, ◌≢◌}
 use Rattle.program.specs.declared.counts.Counts.{Counts}
 use Rattle.program.specs.declared.assembled.Assembled.{Assembled}
 use Rattle.program.specs.declared.refused.Refused.{Refused}

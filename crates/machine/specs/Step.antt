@@ -1,13 +1,12 @@
 -- One step: an instruction, and what the port gives or takes for it.
-use Rattle.std.specs.Prelude.{ℕ, zero, suc, ◌+◌, ◌-◌, Bool, true, false, cond, List, [], ◌∷◌, ◌++◌, length, take, ℤ, pos, Some, None, Option, nat_le}
-use Rattle.program.specs.declared.fault.MachineCause.{MachineCause}
+use Rattle.std.specs.Prelude.{cond, List, [], ◌∷◌, length, take, Some, None, Option, nat_le}
 use Rattle.program.specs.declared.fault.MachineCause.TheVariants.{NoInstruction}
 use Rattle.program.specs.declared.fault.Fault.TheVariants as F
 use Rattle.program.specs.declared.fault.Place.TheVariants.{Counter}
 use Rattle.port.specs.declared.reading.Reading.{Reading as PortReading}
 use Rattle.machine.specs.declared.fetch.Fetched.{Fetched}
 use Rattle.machine.specs.declared.outcome.Outcome.{Outcome}
-use Rattle.machine.specs.declared.outcome.Outcome.TheVariants.{Spent, Halted, Reading, Space, Fault}
+use Rattle.machine.specs.declared.outcome.Outcome.TheVariants.{Reading, Space, Fault}
 use Rattle.instructions.specs.Core.{Core, Next, Act, goes, halts, takes, shows, faults}
 use Rattle.instructions.specs.declared.layout.Layout.{Layout}
 use Rattle.instructions.specs.Moves.{at_pc, pushed}

@@ -1,5 +1,5 @@
 -- From the parts of a rule to what it says of a place.
-use Rattle.std.proofs.Common.{◌≡◌, ℕ, zero, suc, ◌+◌, ◌-◌, ◌<◌, ◌≤◌, ◌⊎◌, List, [], ◌∷◌, ℤ, pos, sym, refl, ap, ◌∙◌, subst, inl, inr, arith}
+use Rattle.std.proofs.Common.{◌≡◌, ℕ, List, [], ◌∷◌, ℤ, sym, subst, inl, inr, arith}
 use Rattle.program.specs.declared.fault.CheckCause.{CheckCause}
 use Rattle.program.specs.declared.unit.Unit.{Unit as UnitRecord}
 use Rattle.isa.specs.declared.instruction.Instruction.{Instruction}
@@ -7,10 +7,9 @@ use Rattle.plan.specs.declared.kind.Kind.{Kind}
 use Rattle.plan.specs.declared.kind.Kind.TheVariants.{Pushes}
 use Rattle.plan.specs.declared.ruling.Ruling.{Ruling}
 use Rattle.plan.specs.declared.ruling.Ruling.TheVariants.{Refused, Last, Onward, Fork}
-use Rattle.plan.specs.declared.successor.Successor.{Successor}
 use Rattle.plan.specs.Kinds.{table, count, kind}
 use Rattle.plan.specs.Programs.{Program}
-use Rattle.plan.specs.Rules.{to, CallFollows, RuleOf}
+use Rattle.plan.specs.Rules.{CallFollows, RuleOf}
 use Rattle.plan.specs.Causes.{Unruled, FewForCall, Holding}
 use Rattle.plan.specs.Rulings.{Ruled, Called, LowIn}
 use Rattle.plan.proofs.Rows.{Fixed, fixed}

@@ -1,22 +1,21 @@
 -- Walks, lawful plans, and refusals.
-use Rattle.std.proofs.Common.{◌≡◌, ℕ, zero, suc, ◌+◌, ◌-◌, ◌<◌, ◌≤◌, ◌⊎◌, List, [], ◌∷◌, length, ℤ, pos, Some, None, Option, sym, refl, ap, ◌∙◌, subst, inl, inr, arith}
+use Rattle.std.proofs.Common.{◌≡◌, ℕ, ◌+◌, ◌-◌, ◌≤◌, List, [], ◌∷◌, ℤ, pos, Some, None, Option, sym, refl, ap, ◌∙◌, subst, inl, inr, arith}
 use Rattle.std.specs.List.{AllByRecursion as All}
 use Rattle.std.proofs.lemmas.Int.{ints}
 use Rattle.program.specs.declared.fault.CheckCause.{CheckCause}
 use Rattle.program.specs.declared.fault.CheckCause.TheVariants.{TableSize, MemoryLength, NoDivision, BadEntry, NoInstruction, NoRule, ShallowDepth, OutsideFrame, TooDeep, DifferentWays}
 use Rattle.program.specs.declared.unit.Unit.{Unit as UnitRecord}
 use Rattle.isa.specs.declared.instruction.Instruction.{Instruction}
-use Rattle.isa.specs.Code.{instruction}
 use Rattle.plan.specs.declared.row.Row.{Row}
 use Rattle.plan.specs.declared.kind.Kind.{Kind}
 use Rattle.plan.specs.declared.kind.Kind.TheVariants.{Moves, Ruleless, Pushes, Ends, Halts, Jumps, Branches, Frames, Counts}
 use Rattle.plan.specs.declared.successor.Successor.{Successor}
 use Rattle.plan.specs.Kinds.{table, count, uses, gives, kind}
-use Rattle.plan.specs.Programs.{Program, Listed, Opens, Opened, Sits}
-use Rattle.plan.specs.Rules.{to, Onto, CallFollows, Calls, RuleOf, Rule, Low, Steps}
-use Rattle.plan.specs.Lawful.{Plan, Has, Holds, Root, Lawful}
+use Rattle.plan.specs.Programs.{Program, Listed, Opened}
+use Rattle.plan.specs.Rules.{to, Onto, RuleOf, Rule, Low, Steps}
+use Rattle.plan.specs.Lawful.{Plan, Has, Holds, Lawful}
 use Rattle.plan.specs.Walks.{In, Walk, root, on}
-use Rattle.plan.specs.Causes.{BadUnit, Unruled, FewForCall, Outside, Holding, AtNone, AtPlace, AtTwo, Due}
+use Rattle.plan.specs.Causes.{Unruled, FewForCall, Outside, Holding, AtPlace, Due}
 use Rattle.plan.proofs.Listing.{listed_same}
 use Rattle.plan.proofs.Dividing.{stops_not}
 use Rattle.plan.proofs.Rows.{Fixed, fixed}

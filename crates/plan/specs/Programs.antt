@@ -1,5 +1,5 @@
 -- A program as the check sees it: its code, how the code divides into instructions, and its units.
-use Rattle.std.specs.Prelude.{◌≡◌, ℕ, ◌+◌, ◌<◌, ◌≤◌, List, length, take, ℤ, pos, Some, None, Option, slice_index_or}
+use Rattle.std.specs.Prelude.{◌≡◌, ℕ, ◌+◌, ◌<◌, ◌≤◌, List, length, take, ℤ, Some, None, Option, slice_index_or}
 use Rattle.program.specs.declared.counts.Counts.{Counts}
 use Rattle.program.specs.declared.unit.Unit.{Unit as UnitRecord}
 use Rattle.isa.specs.declared.opcode.Opcode.{Opcode}

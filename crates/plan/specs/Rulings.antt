@@ -1,12 +1,10 @@
 -- What a ruling says of the instruction i at a place.
 use Rattle.std.specs.Prelude.{◌≡◌, ℕ, ◌+◌, ◌-◌, ◌<◌, ◌≤◌, ◌⊎◌, List, [], ◌∷◌, ℤ, pos, ◌≢◌}
-use Rattle.program.specs.declared.fault.CheckCause.{CheckCause}
 use Rattle.program.specs.declared.fault.CheckCause.TheVariants.{NoRule, ShallowDepth, TooDeep}
 use Rattle.program.specs.declared.unit.Unit.{Unit as UnitRecord}
 use Rattle.isa.specs.declared.instruction.Instruction.{Instruction}
 use Rattle.plan.specs.declared.ruling.Ruling.{Ruling}
 use Rattle.plan.specs.declared.ruling.Ruling.TheVariants.{Refused, Last, Onward, Fork}
-use Rattle.plan.specs.declared.successor.Successor.{Successor}
 use Rattle.plan.specs.Kinds.{uses, gives}
 use Rattle.plan.specs.Programs.{Program, Listed}
 use Rattle.plan.specs.Rules.{Onto, Calls, Rule}

@@ -1,5 +1,5 @@
 -- The limits of a program.
-use Rattle.std.specs.Prelude.{ℕ, ◌+◌, ◌≤◌}
+use Rattle.std.specs.Prelude.{◌+◌, ◌≤◌}
 use Rattle.program.specs.declared.counts.Counts.{Counts}
 
 -- from 16 to 65,536 cells, which hold code, data and heap; at most 512 labels and 64 units

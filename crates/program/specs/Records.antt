@@ -1,5 +1,5 @@
 -- Slots that hold nothing.
-use Rattle.std.specs.Prelude.{◌≡◌, ℕ, List, replicate}
+use Rattle.std.specs.Prelude.{◌≡◌, replicate}
 use Rattle.program.specs.declared.name.Name.{Name}
 use Rattle.program.specs.declared.label.Label.{Label}
 use Rattle.program.specs.declared.unit.Unit.{Unit as UnitRecord}

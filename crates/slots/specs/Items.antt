@@ -1,5 +1,5 @@
 -- What a list over slots holds.
-use Rattle.std.specs.Prelude.{ℕ, List, length, take}
+use Rattle.std.specs.Prelude.{ℕ, List, take}
 use Rattle.slots.specs.declared.list.SlotList.{SlotList}
 
 module _ {T : Type 0} where

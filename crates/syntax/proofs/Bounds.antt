@@ -1,5 +1,5 @@
 -- No line gives a name of more than 31 bytes or takes more than 1,000 cells.
-use Rattle.std.proofs.Common.{◌≡◌, ℕ, zero, suc, ◌+◌, ◌<◌, ◌≤◌, Bool, true, false, ◌&&◌, eqb, leb, List, [], ◌∷◌, length, ℤ, pos, negsuc, Some, None, codes, Option, sym, refl, ap, ◌∙◌, arith}
+use Rattle.std.proofs.Common.{◌≡◌, ℕ, zero, suc, ◌≤◌, Bool, true, false, ◌&&◌, eqb, leb, List, [], ◌∷◌, length, ℤ, pos, negsuc, Some, None, codes, Option, refl, arith}
 use Rattle.std.proofs.lemmas.List.{length-map, length-replicate}
 use Rattle.std.proofs.lemmas.Bool.{and_parts, leb-true}
 use Rattle.program.specs.Names.{same}
@@ -10,9 +10,9 @@ use Rattle.isa.specs.declared.opcode.Operand.{Operand}
 use Rattle.isa.specs.declared.opcode.Operand.TheVariants.{Absent, Value, Target, Count, Number}
 use Rattle.syntax.specs.Bytes.{starts, comment, blank, continues, front, after, every, plain}
 use Rattle.syntax.specs.Tokens.{Tok, name, number, character, text, sign, Read, word, token_of_bytes, quoted, closed, figures, not_quote, unblanked, next_read, tokens_by, tokens}
-use Rattle.syntax.specs.Forms.{Item, value, at, Form, foul, unfit, empty, section, unit, instruction, words, copies, ended, is_sign_token, is_dup_token, then_name, then_number, then_sign, then_further, unit_form, section_of_name, directive_of, directive, is_list, listed, copies_form, data_form, then_argument, instruction_form, on_value, on_number, on_name, operation, labelled, spelled, form}
-use Rattle.syntax.specs.Cells.{cells, times, span, spans}
-use Rattle.syntax.specs.Limits.{ShortLabel, ShortName, Limited}
+use Rattle.syntax.specs.Forms.{Item, value, at, Form, foul, unfit, empty, section, unit, instruction, words, copies, ended, is_sign_token, is_dup_token, then_name, then_number, then_sign, then_further, unit_form, section_of_name, directive_of, is_list, listed, copies_form, data_form, then_argument, instruction_form, on_value, on_number, on_name, operation, labelled, spelled, form}
+use Rattle.syntax.specs.Cells.{times, spans}
+use Rattle.syntax.specs.Limits.{ShortLabel, Limited}
 use Rattle.syntax.proofs.Listed.{items_span}
 use Rattle.syntax.proofs.Tokened.{next_span}
 

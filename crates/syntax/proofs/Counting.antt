@@ -1,4 +1,4 @@
-use Rattle.std.proofs.Common.{◌≡◌, ℕ, zero, suc, ◌-◌, ◌<◌, ◌≤◌, List, [], ◌∷◌, Some, None, sym, refl, ap, ◌∙◌, arith}
+use Rattle.std.proofs.Common.{◌≡◌, ℕ, zero, suc, ◌-◌, ◌≤◌, List, [], ◌∷◌, Some, None, refl, arith}
 use Rattle.syntax.specs.Lines.{line_at}
 
 pub line_here : (n : ℕ) (ls ms : List (List ℕ)) (l : List ℕ) → n ≡ 1 → ls ≡ l ∷ ms → line_at n ls ≡ Some l

@@ -1,10 +1,9 @@
 -- The token at the front of a list of bytes, case by case.
-use Rattle.std.proofs.Common.{◌≡◌, ℕ, suc, ◌+◌, ◌-◌, ◌<◌, ◌≤◌, Bool, true, false, eqb, List, [], ◌∷◌, ◌++◌, length, get_or, take, drop, sym, refl, ap, ◌∙◌, one-add, arith}
-use Rattle.std.proofs.lemmas.List.{take_rest}
+use Rattle.std.proofs.Common.{◌≡◌, ℕ, ◌+◌, ◌<◌, ◌≤◌, true, false, eqb, List, [], ◌∷◌, length, get_or, take, drop, refl, ◌∙◌, one-add, arith}
 use Rattle.std.proofs.lemmas.Bool.{ne_eqb}
 use Rattle.decimal.specs.Numbers.{digit, numeral}
 use Rattle.syntax.specs.Bytes.{starts, front, after}
-use Rattle.syntax.specs.Tokens.{Tok, number, character, text, sign, Read, read, token_of_bytes, quoted, closed, figures, not_quote}
+use Rattle.syntax.specs.Tokens.{number, character, text, sign, read, token_of_bytes, quoted, closed, figures, not_quote}
 use Rattle.syntax.specs.Meant.{token_of}
 
 pub quoted_yes : (xs : List ℕ) → 3 ≤ length xs → get_or xs 0 0 ≡ 39 → get_or xs 2 0 ≡ 39 → token_of xs ≡ read (character (get_or xs 1 0)) (drop 3 xs)

@@ -1,11 +1,11 @@
 -- The items of DW, one on, and the cells that they take.
-use Rattle.std.proofs.Common.{◌≡◌, ℕ, ◌+◌, Bool, true, false, List, [], ◌∷◌, ◌++◌, length, Some, None, codes, Option, sym, refl, ap, ◌∙◌, length-append}
+use Rattle.std.proofs.Common.{◌≡◌, ℕ, true, false, List, [], ◌∷◌, length, Some, codes, Option, sym, refl, ◌∙◌, length-append}
 use Rattle.std.proofs.lemmas.List.{length-map}
 use Rattle.program.specs.Names.{same}
 use Rattle.isa.specs.Table.{named}
 use Rattle.isa.specs.declared.opcode.Opcode.{Opcode}
 use Rattle.syntax.specs.Tokens.{Tok, name, number, character, text, sign}
-use Rattle.syntax.specs.Forms.{Item, byte, is_item_token, is_list, is_sign_token, is_dup_token, listed, data_form, instruction_form, operation}
+use Rattle.syntax.specs.Forms.{byte, is_item_token, is_list, is_sign_token, is_dup_token, listed, data_form, instruction_form, operation}
 use Rattle.syntax.specs.Cells.{items_of, items, span, spans}
 
 module _ (ts us vs : List Tok) (t u : Tok) (e : ts ≡ t ∷ us) (f : us ≡ u ∷ vs) where

@@ -1,6 +1,6 @@
 -- The longest front whose bytes pass, one byte on.
-use Rattle.std.proofs.Common.{◌≡◌, ℕ, ◌+◌, ◌<◌, ◌≤◌, Bool, true, false, List, [], ◌∷◌, ◌++◌, length, get_or, take, drop, sym, refl, ap, ◌∙◌, append_assoc, arith}
-use Rattle.std.proofs.lemmas.List.{drop_more, take_more, drop_all, take_all, append-nil}
+use Rattle.std.proofs.Common.{◌≡◌, ℕ, ◌+◌, ◌<◌, ◌≤◌, Bool, true, false, List, [], ◌∷◌, ◌++◌, length, get_or, take, drop, refl, append_assoc}
+use Rattle.std.proofs.lemmas.List.{drop_more, take_more, drop_all}
 use Rattle.syntax.specs.Bytes.{front, after, every}
 
 module _ (p : ℕ → Bool) where

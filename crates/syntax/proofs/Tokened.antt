@@ -1,5 +1,5 @@
 -- The tokens of a line: the first, then those of the rest.
-use Rattle.std.proofs.Common.{◌≡◌, ℕ, zero, suc, ◌+◌, ◌<◌, ◌≤◌, Bool, true, false, eqb, leb, List, [], ◌∷◌, ◌++◌, length, Some, None, Option, sym, refl, ap, ◌∙◌, le_refl, arith, MatchOption}
+use Rattle.std.proofs.Common.{◌≡◌, ℕ, zero, suc, ◌+◌, ◌<◌, ◌≤◌, Bool, true, false, eqb, leb, List, [], ◌∷◌, length, Some, None, Option, sym, refl, ap, ◌∙◌, arith, MatchOption}
 use Rattle.decimal.specs.Numbers.{digit}
 use Rattle.syntax.specs.Bytes.{starts, comment, blank, continues, front, after}
 use Rattle.syntax.specs.Tokens.{Tok, Read, read, word, token_of_bytes, quoted, closed, figures, not_quote, unblanked, next_read, tokens_by, tokens}

@@ -1,9 +1,9 @@
 -- Lines, and the forms that they have.
-use Rattle.std.proofs.Common.{◌≡◌, ℕ, true, false, List, [], ◌∷◌, ◌++◌, length, replicate, ℤ, pos, negsuc, Some, None, codes, refl}
-use Rattle.program.specs.declared.section.Section.TheVariants.{Code, Data, Heap}
-use Rattle.isa.specs.declared.opcode.Opcode.TheVariants.{Push, Add, Rmem, Nop}
-use Rattle.syntax.specs.Forms.{Item, value, at, byte, Form, foul, unfit, empty, section, unit, instruction, words, copies, form}
-use Rattle.syntax.specs.Cells.{cells, items}
+use Rattle.std.proofs.Common.{◌≡◌, true, false, [], ◌∷◌, ◌++◌, replicate, pos, negsuc, Some, codes, refl}
+use Rattle.program.specs.declared.section.Section.TheVariants.{Code}
+use Rattle.isa.specs.declared.opcode.Opcode.TheVariants.{Push, Nop}
+use Rattle.syntax.specs.Forms.{value, at, byte, foul, unfit, empty, section, unit, instruction, copies, form}
+use Rattle.syntax.specs.Cells.{cells}
 use Rattle.syntax.specs.Ranges.{range}
 use Rattle.syntax.specs.Lines.{lines}
 

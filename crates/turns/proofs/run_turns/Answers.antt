@@ -1,4 +1,4 @@
-use Rattle.std.proofs.Common.{◌≡◌, ◌+◌, sym, refl, ap, ◌∙◌, arith}
+use Rattle.std.proofs.Common.{◌+◌, sym, refl}
 use Rattle.machine.specs.declared.outcome.Outcome.TheVariants.{Spent}
 use Rattle.turns.proofs.Sums.{both_done, done_as, one_done}
 use Rattle.turns.proofs.run_turns.Goals as goal

@@ -1,13 +1,7 @@
-use Rattle.std.proofs.Common.{◌≡◌, ℕ, ◌+◌, List, [], ◌++◌, length, sym, refl, ap, ◌∙◌, arith, length-append}
-use Rattle.program.specs.declared.section.Section.{Section}
-use Rattle.program.specs.declared.section.Section.TheVariants.{Code, Data, Heap}
+use Rattle.std.proofs.Common.{◌∙◌, arith}
 use Rattle.slots.specs.Items.{room}
-use Rattle.syntax.specs.Forms.{Form}
-use Rattle.assembler.specs.declared.tally.Tally.{Tally}
 use Rattle.assembler.specs.Assembly.{forms}
-use Rattle.assembler.specs.Marks.{Mark, Entry}
 use Rattle.assembler.specs.Progress.{entries, marks}
-use Rattle.assembler.specs.Survey.{done, fresh, opened, survey, surveyed}
 use Rattle.assembler.proofs.Passes.{taken_both}
 use Rattle.assembler.proofs.building.survey_texts.Goals as goal
 

@@ -1,4 +1,4 @@
-use Rattle.std.proofs.Common.{◌≡◌, sym, refl, ap, ◌∙◌}
+use Rattle.std.proofs.Common.{sym, ◌∙◌}
 use Rattle.program.specs.Names.{smalls}
 use Rattle.assembler.proofs.Searches.{find_here, find_on, find_none}
 use Rattle.assembler.proofs.finding.find.Goals as goal

@@ -1,4 +1,4 @@
-use Rattle.std.proofs.Common.{◌≡◌, map, sym, refl, ap, ◌∙◌}
+use Rattle.std.proofs.Common.{map, sym, ap, ◌∙◌}
 use Rattle.syntax.specs.Cells.{items, items_of}
 use Rattle.syntax.specs.Meant.{meant}
 use Rattle.syntax.specs.Tokens.{tokens}

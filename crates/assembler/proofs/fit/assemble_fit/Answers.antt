@@ -1,4 +1,4 @@
-use Rattle.std.proofs.Common.{◌≡◌, min, map, length, replicate, pos, sym, refl, ap, ◌∙◌, rules}
+use Rattle.std.proofs.Common.{min, length, replicate, pos, ap, ◌∙◌, rules}
 use Rattle.slots.specs.Items.{items, room, slots_of}
 use Rattle.assembler.specs.Assembly.{first, forms}
 use Rattle.assembler.specs.Handed.{handed}

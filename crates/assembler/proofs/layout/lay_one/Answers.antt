@@ -1,7 +1,6 @@
-use Rattle.std.proofs.Common.{map, arith}
 use Rattle.slots.specs.Items.{items}
-use Rattle.assembler.specs.Cells.{laid, opening}
-use Rattle.assembler.specs.Marks.{entry_of, mark_of}
+use Rattle.assembler.specs.Cells.{laid}
+use Rattle.assembler.specs.Marks.{mark_of}
 use Rattle.assembler.proofs.Laying.{one_laid}
 use Rattle.assembler.proofs.layout.lay_one.Goals as goal
 

@@ -1,6 +1,6 @@
-use Rattle.std.proofs.Common.{map, arith}
+use Rattle.std.proofs.Common.{map}
 use Rattle.slots.specs.Items.{items}
-use Rattle.assembler.specs.Cells.{laid, opening}
+use Rattle.assembler.specs.Cells.{opening}
 use Rattle.assembler.specs.Marks.{entry_of, mark_of}
 use Rattle.assembler.proofs.Laying.{one_laid}
 use Rattle.assembler.proofs.layout.open_one.Goals as goal

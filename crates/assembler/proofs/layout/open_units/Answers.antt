@@ -1,9 +1,9 @@
-use Rattle.std.proofs.Common.{◌≡◌, ◌<◌, ◌≤◌, map, length, ◌∙◌, arith}
+use Rattle.std.proofs.Common.{◌≡◌, map, length, ◌∙◌, arith}
 use Rattle.std.proofs.lemmas.List.{length-map, length-take-le}
 use Rattle.slots.specs.Items.{items, slots_of}
-use Rattle.assembler.specs.Cells.{laid, opening}
+use Rattle.assembler.specs.Cells.{opening}
 use Rattle.assembler.specs.Marks.{entry_of, mark_of}
-use Rattle.assembler.specs.Progress.{entries, marks}
+use Rattle.assembler.specs.Progress.{entries}
 use Rattle.assembler.proofs.Laying.{laid_more, laid_all}
 use Rattle.assembler.proofs.layout.open_units.Goals as goal
 

@@ -1,7 +1,7 @@
 use Rattle.std.proofs.Common.{◌≡◌, ◌++◌, map, take, drop}
-use Rattle.assembler.specs.Cells.{laid, opening}
+use Rattle.assembler.specs.Cells.{opening}
 use Rattle.assembler.specs.Marks.{mark_of}
-use Rattle.assembler.specs.Progress.{Kept, entries, marks}
+use Rattle.assembler.specs.Progress.{Kept, entries}
 use Rattle.assembler.proofs.layout.open_units.Given as goal
 
 abbrev pub invariant-loop-i : goal.invariant-loop-i

@@ -1,4 +1,4 @@
-use Rattle.std.proofs.Common.{◌≡◌, true, false, map, sym, refl, ap, ◌∙◌}
+use Rattle.std.proofs.Common.{◌≡◌, true, false, map, refl, ap, ◌∙◌}
 use Rattle.program.specs.Names.{smalls}
 use Rattle.slots.specs.Items.{items, room}
 use Rattle.assembler.specs.Marks.{has}

@@ -1,4 +1,4 @@
-use Rattle.std.proofs.Common.{◌≡◌, sym, refl, ap, ◌∙◌}
+use Rattle.std.proofs.Common.{sym, ◌∙◌}
 use Rattle.program.specs.Names.{smalls}
 use Rattle.assembler.proofs.Adding.{has_here, has_on, has_none}
 use Rattle.assembler.proofs.named.is_given.Goals as goal

@@ -1,4 +1,4 @@
-use Rattle.std.proofs.Common.{◌≡◌, sym, refl, ap, ◌∙◌, arith, rules}
+use Rattle.std.proofs.Common.{rules}
 use Rattle.program.specs.Names.{smalls}
 use Rattle.slots.specs.Items.{items, room}
 use Rattle.assembler.specs.Marks.{Mark, mark_of, mark}

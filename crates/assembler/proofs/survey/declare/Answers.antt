@@ -1,12 +1,11 @@
-use Rattle.std.proofs.Common.{◌≡◌, ℕ, Bool, false, not, List, sym, refl, ap, ◌∙◌, arith, rules}
+use Rattle.std.proofs.Common.{◌≡◌, ℕ, false, not, List, sym, ap, ◌∙◌, arith}
 use Rattle.program.specs.Names.{smalls}
 use Rattle.program.specs.declared.fault.AssemblyCause.TheVariants.{LateUnit}
-use Rattle.decimal.specs.Numbers.{numeral}
 use Rattle.slots.specs.Items.{room}
 use Rattle.assembler.specs.declared.tally.Tally.{Tally}
 use Rattle.assembler.specs.Marks.{Mark, Entry}
 use Rattle.assembler.specs.Progress.{entries}
-use Rattle.assembler.specs.Survey.{Step, demand, surveyed, declaring, go, octet}
+use Rattle.assembler.specs.Survey.{demand, surveyed, declaring, go}
 use Rattle.assembler.proofs.survey.declare.Goals as goal
 
 -- a unit in time, whose numbers are m and r

@@ -1,4 +1,4 @@
-use Rattle.std.proofs.Common.{◌≡◌, sym, refl, ap, ◌∙◌}
+use Rattle.std.proofs.Common.{sym, ap, ◌∙◌}
 use Rattle.program.specs.declared.fault.AssemblyCause.TheVariants.{WrongSection}
 use Rattle.slots.specs.Items.{room}
 use Rattle.syntax.specs.Stated.{label_of}

@@ -1,10 +1,9 @@
-use Rattle.std.proofs.Common.{◌≡◌, ℕ, ◌≤◌, List, length, sym, refl, ap, ◌∙◌, arith}
+use Rattle.std.proofs.Common.{◌≤◌, List, length, sym, ap, ◌∙◌}
 use Rattle.std.proofs.lemmas.List.{length-map}
 use Rattle.program.specs.Names.{small, smalls}
 use Rattle.slots.specs.Items.{room}
-use Rattle.syntax.specs.Limits.{ShortLabel}
 use Rattle.syntax.specs.Stated.{label_of}
-use Rattle.assembler.specs.Marks.{Mark, Entry}
+use Rattle.assembler.specs.Marks.{Mark}
 use Rattle.assembler.specs.Progress.{marks}
 use Rattle.assembler.specs.Survey.{go, surveyed, putting, grown}
 use Rattle.assembler.proofs.survey.put_cells.Goals as goal

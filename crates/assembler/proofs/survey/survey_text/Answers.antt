@@ -1,7 +1,7 @@
-use Rattle.std.proofs.Common.{◌≡◌, ℕ, ◌+◌, ◌-◌, ◌*◌, ◌≤◌, length, sym, refl, ap, ◌∙◌, arith}
+use Rattle.std.proofs.Common.{◌+◌, ◌-◌, ◌*◌, length, ap, ◌∙◌, arith}
 use Rattle.slots.specs.Items.{room}
 use Rattle.assembler.specs.Assembly.{forms}
-use Rattle.assembler.specs.Progress.{Small, entries, marks}
+use Rattle.assembler.specs.Progress.{entries, marks}
 use Rattle.assembler.specs.Survey.{survey, surveyed}
 use Rattle.assembler.proofs.Surveys.{survey_more, survey_none}
 use Rattle.assembler.proofs.survey.survey_text.Goals as goal

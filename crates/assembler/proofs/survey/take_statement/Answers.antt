@@ -1,12 +1,10 @@
-use Rattle.std.proofs.Common.{◌≡◌, ℕ, ◌≤◌, not, List, length, sym, refl, ap, ◌∙◌}
+use Rattle.std.proofs.Common.{◌≤◌, not, length, sym, refl, ap, ◌∙◌}
 use Rattle.std.proofs.lemmas.List.{length-map}
 use Rattle.program.specs.Names.{small, smalls}
 use Rattle.program.specs.declared.fault.AssemblyCause.TheVariants.{WrongSection}
 use Rattle.slots.specs.Items.{room}
 use Rattle.syntax.specs.Cells.{cells}
-use Rattle.syntax.specs.Limits.{ShortName}
 use Rattle.syntax.specs.Stated.{label_of, stated}
-use Rattle.syntax.specs.declared.statements.Statement.{Statement}
 use Rattle.assembler.specs.Progress.{marks, entries}
 use Rattle.assembler.specs.Survey.{surveyed, demand, is_code, putting, taken}
 use Rattle.assembler.proofs.Taking.{put_taken}

@@ -1,4 +1,4 @@
-use Rattle.std.proofs.Common.{◌≡◌, ◌+◌, map, get_or, drop, pos, sym, refl, ap, ◌∙◌, rules}
+use Rattle.std.proofs.Common.{◌+◌, map, get_or, drop, pos, ap, rules}
 use Rattle.std.proofs.lemmas.List.{drop_more, drop_all}
 use Rattle.std.proofs.lemmas.Int.{to_z-of_z}
 use Rattle.assembler.proofs.Clips.{kept_then, left_more, puts_end}

@@ -1,4 +1,4 @@
-use Rattle.std.proofs.Common.{◌≡◌, List, [], ◌∷◌, map, length, replicate, ℤ, pos, sym, refl, ap, ◌∙◌, rules}
+use Rattle.std.proofs.Common.{◌∷◌, map, length, replicate, pos, sym, ap, ◌∙◌, rules}
 use Rattle.std.proofs.lemmas.List.{length-replicate}
 use Rattle.std.proofs.lemmas.Int.{to_z-of_z}
 use Rattle.decimal.specs.Numbers.{numeral}
@@ -6,7 +6,7 @@ use Rattle.isa.specs.Table.{number}
 use Rattle.syntax.specs.Cells.{cells, times}
 use Rattle.syntax.specs.Forms.{value}
 use Rattle.syntax.specs.Stated.{argued, stated}
-use Rattle.assembler.specs.Cells.{cell, in_cell}
+use Rattle.assembler.specs.Cells.{cell}
 use Rattle.assembler.specs.Marks.{mark_of}
 use Rattle.assembler.proofs.Clips.{puts_as, puts_none}
 use Rattle.assembler.proofs.Written.{copies_put, opcode_cell}

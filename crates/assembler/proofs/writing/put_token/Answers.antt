@@ -1,4 +1,4 @@
-use Rattle.std.proofs.Common.{◌≡◌, map, pos, sym, refl, ap, ◌∙◌}
+use Rattle.std.proofs.Common.{map, pos, sym, ap, ◌∙◌}
 use Rattle.syntax.specs.Cells.{items_of}
 use Rattle.syntax.specs.Meant.{meant}
 use Rattle.assembler.specs.Cells.{cell}

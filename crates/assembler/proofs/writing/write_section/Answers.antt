@@ -1,4 +1,4 @@
-use Rattle.std.proofs.Common.{◌≡◌, cond, [], map, sym, refl, ap, ◌∙◌}
+use Rattle.std.proofs.Common.{cond, [], map}
 use Rattle.program.specs.declared.section.Section.TheVariants.{Code}
 use Rattle.syntax.specs.Cells.{cells}
 use Rattle.syntax.specs.Forms.{form}

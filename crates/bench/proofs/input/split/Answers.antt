@@ -1,7 +1,7 @@
-use Rattle.std.proofs.Common.{◌≡◌, ◌+◌, ◌-◌, ◌≤◌, false, [], length, take, drop, sym, refl, ap, ◌∙◌, arith, rules}
+use Rattle.std.proofs.Common.{◌≡◌, ◌+◌, ◌-◌, ◌≤◌, false, length, take, sym, ap, ◌∙◌, arith, rules}
 use Rattle.std.proofs.lemmas.List.{take_all, nil_from_length}
 use Rattle.syntax.specs.Lines.{lines}
-use Rattle.bench.specs.Input.{is_dot_text, before, beyond, extent, site_of}
+use Rattle.bench.specs.Input.{is_dot_text, before, beyond, extent}
 use Rattle.bench.proofs.Cutting.{beyond_line, suffix_more, take_line, before_line, beyond_more}
 use Rattle.bench.proofs.input.split.Goals as goal
 

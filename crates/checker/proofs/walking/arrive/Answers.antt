@@ -1,9 +1,8 @@
-use Rattle.std.proofs.Common.{◌≡◌, ℕ, ◌+◌, List, [], ◌∷◌, ◌++◌, length, get_or, set, ℤ, pos, Some, None, sym, refl, ◌∙◌, subst, arith, w64}
+use Rattle.std.proofs.Common.{◌≡◌, ℕ, List, [], ◌∷◌, ◌++◌, length, get_or, set, ℤ, pos, Some, None, sym, refl, ◌∙◌, subst, arith, w64}
 use Rattle.std.proofs.lemmas.Int.{to_z-of_z}
 use Rattle.std.proofs.lemmas.Bool.{both_ways}
 use Rattle.slots.specs.Items.{items}
 use Rattle.plan.specs.Programs.{Program, coded}
-use Rattle.plan.specs.Rules.{to}
 use Rattle.plan.specs.Lawful.{Has, Table, plan_of}
 use Rattle.plan.proofs.Walking.{walk_low}
 use Rattle.checker.specs.Work.{places_of, Route, Arrived}

@@ -3,7 +3,7 @@ use Rattle.std.proofs.lemmas.Result.{MatchResult-weaker}
 use Rattle.std.proofs.lemmas.Int.{ints}
 use Rattle.slots.specs.Items.{items}
 use Rattle.plan.specs.Programs.{Program, coded}
-use Rattle.plan.specs.Rules.{Steps, to}
+use Rattle.plan.specs.Rules.{Steps}
 use Rattle.plan.specs.Lawful.{Holds, plan_of}
 use Rattle.plan.specs.Causes.{AtPlace, Due}
 use Rattle.checker.specs.Work.{places_of}

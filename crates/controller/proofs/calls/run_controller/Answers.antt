@@ -1,4 +1,4 @@
-use Rattle.std.proofs.Common.{◌≡◌, sym, refl, subst}
+use Rattle.std.proofs.Common.{sym, refl, subst}
 use Rattle.machine.specs.Turns.{Answered}
 use Rattle.controller.specs.Lives.{Controller, Life}
 use Rattle.controller.specs.Calls.{controlled}

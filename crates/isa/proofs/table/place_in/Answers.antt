@@ -1,4 +1,4 @@
-use Rattle.std.proofs.Common.{◌≡◌, ◌+◌, sym, refl, ap, ◌∙◌}
+use Rattle.std.proofs.Common.{◌+◌, sym, ◌∙◌}
 use Rattle.program.specs.Names.{smalls}
 use Rattle.isa.proofs.Placing.{placed_here, placed_on, placed_none}
 use Rattle.isa.proofs.table.place_in.Goals as goal

@@ -1,5 +1,5 @@
-use Rattle.std.proofs.Common.{◌≡◌, ◌+◌, length, drop}
-use Rattle.program.specs.Names.{same, smalls}
+use Rattle.std.proofs.Common.{◌≡◌, ◌+◌, drop}
+use Rattle.program.specs.Names.{smalls}
 use Rattle.isa.specs.Table.{placed, texts}
 use Rattle.isa.proofs.table.place_in.Given as goal
 

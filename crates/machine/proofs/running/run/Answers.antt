@@ -1,4 +1,4 @@
-use Rattle.std.proofs.Common.{◌≡◌, sym, refl, ap, ◌∙◌, arith, rules}
+use Rattle.std.proofs.Common.{sym, refl, ap, ◌∙◌, arith}
 use Rattle.instructions.specs.Core.{core}
 use Rattle.machine.specs.Turns.{rerun}
 use Rattle.machine.specs.Console.{console}

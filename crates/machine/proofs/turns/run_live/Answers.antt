@@ -1,4 +1,4 @@
-use Rattle.std.proofs.Common.{◌≡◌, suc, ◌+◌, ◌-◌, sym, ◌∙◌, arith, rules}
+use Rattle.std.proofs.Common.{◌+◌, ◌-◌, sym, ◌∙◌, arith, rules}
 use Rattle.machine.proofs.Stepping.{runs_spent, runs_more}
 use Rattle.machine.proofs.turns.run_live.Goals as goal
 

@@ -1,4 +1,4 @@
-use Rattle.std.proofs.Common.{◌≡◌, ℕ, ◌+◌, ◌-◌, [], ◌∷◌, ℤ, pos, sym, refl, ap, ◌∙◌, inl, inr, arith, w32, w64, to_z, of_z}
+use Rattle.std.proofs.Common.{◌≡◌, ◌+◌, ◌-◌, [], ◌∷◌, ℤ, pos, sym, refl, ap, ◌∙◌, inl, inr, arith, w32, w64, to_z}
 use Rattle.std.proofs.lemmas.Int.{to_z-of_z, ints}
 use Rattle.plan.specs.Rules.{to}
 use Rattle.plan.proofs.rules.call.Goals as goal

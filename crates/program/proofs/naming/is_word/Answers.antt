@@ -1,4 +1,4 @@
-use Rattle.std.proofs.Common.{◌≡◌, sym, refl, ap, ◌∙◌, arith}
+use Rattle.std.proofs.Common.{sym, ◌∙◌, arith}
 use Rattle.program.proofs.Letters.{same_apart, same_more, same_not, same_all}
 use Rattle.program.proofs.naming.is_word.Goals as goal
 

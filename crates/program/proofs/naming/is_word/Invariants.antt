@@ -1,4 +1,4 @@
-use Rattle.std.proofs.Common.{◌≡◌, length, drop}
+use Rattle.std.proofs.Common.{◌≡◌, drop}
 use Rattle.program.specs.Names.{same, smalls}
 use Rattle.program.proofs.naming.is_word.Given as goal
 

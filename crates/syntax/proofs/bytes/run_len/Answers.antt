@@ -1,6 +1,5 @@
-use Rattle.std.proofs.Common.{◌≡◌, ◌+◌, ◌<◌, ◌≤◌, true, false, ◌++◌, length, get_or, take, drop, sym, refl, ap, ◌∙◌, arith, rules}
-use Rattle.std.proofs.lemmas.List.{drop_all, take_all, append-nil}
-use Rattle.syntax.specs.Bytes.{front, after}
+use Rattle.std.proofs.Common.{◌≡◌, ◌<◌, ◌≤◌, true, false, ◌++◌, length, get_or, take, sym, ap, ◌∙◌, arith}
+use Rattle.std.proofs.lemmas.List.{drop_all, append-nil}
 use Rattle.syntax.specs.Kinds.{belongs}
 use Rattle.syntax.proofs.Runs.{front_yes, after_yes, front_no, after_no}
 use Rattle.syntax.proofs.bytes.run_len.Goals as goal

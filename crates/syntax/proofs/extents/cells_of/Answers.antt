@@ -1,6 +1,5 @@
-use Rattle.std.proofs.Common.{◌≡◌, length, sym, refl, ap, ◌∙◌}
+use Rattle.std.proofs.Common.{length, sym, ap, ◌∙◌}
 use Rattle.std.proofs.lemmas.List.{length-replicate}
-use Rattle.syntax.specs.Tokens.{tokens}
 use Rattle.syntax.specs.Cells.{cells}
 use Rattle.syntax.specs.Stated.{stated}
 use Rattle.syntax.proofs.Listed.{items_span}

@@ -1,4 +1,4 @@
-use Rattle.std.proofs.Common.{◌≡◌, sym, refl, ap, ◌∙◌, arith, rules}
+use Rattle.std.proofs.Common.{sym, ◌∙◌, arith}
 use Rattle.syntax.specs.Lines.{lines}
 use Rattle.syntax.proofs.Counting.{line_on, line_none}
 use Rattle.syntax.proofs.lines.line_in.Goals as goal

@@ -1,4 +1,4 @@
-use Rattle.std.proofs.Common.{◌≡◌, sym, refl, ap, ◌∙◌}
+use Rattle.std.proofs.Common.{◌∙◌}
 use Rattle.syntax.proofs.Listed.{items_more}
 use Rattle.syntax.proofs.statements.are_items.Goals as goal
 

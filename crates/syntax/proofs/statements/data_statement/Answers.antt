@@ -1,4 +1,4 @@
-use Rattle.std.proofs.Common.{◌≡◌, sym, refl, ap, ◌∙◌}
+use Rattle.std.proofs.Common.{◌∙◌}
 use Rattle.syntax.proofs.Listed.{list_form}
 use Rattle.syntax.proofs.statements.data_statement.Goals as goal
 

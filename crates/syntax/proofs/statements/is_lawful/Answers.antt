@@ -1,4 +1,4 @@
-use Rattle.std.proofs.Common.{◌≡◌, leb, length, sym, refl, ap, ◌∙◌, arith}
+use Rattle.std.proofs.Common.{leb, length, sym, ◌∙◌, arith}
 use Rattle.std.proofs.lemmas.Bool.{and_right, and_from, le-leb}
 use Rattle.syntax.specs.Bytes.{every, plain}
 use Rattle.syntax.proofs.Runs.{every_yes, every_no, every_all}

@@ -1,4 +1,4 @@
-use Rattle.std.proofs.Common.{◌≡◌, sym, refl, ap, ◌∙◌}
+use Rattle.std.proofs.Common.{◌∙◌}
 use Rattle.program.specs.Names.{smalls}
 use Rattle.syntax.proofs.Listed.{operation_form}
 use Rattle.syntax.proofs.statements.operation_statement.Goals as goal

@@ -1,4 +1,4 @@
-use Rattle.std.proofs.Common.{◌≡◌, sym, refl, ap, ◌∙◌, rules}
+use Rattle.std.proofs.Common.{◌≡◌, rules}
 use Rattle.syntax.specs.Forms.{form}
 use Rattle.syntax.specs.Stated.{line_form}
 use Rattle.syntax.proofs.Bounds.{limited}

@@ -1,7 +1,5 @@
-use Rattle.std.proofs.Common.{◌≡◌, length, take, drop, sym, refl, ap, ◌∙◌, arith}
+use Rattle.std.proofs.Common.{sym}
 use Rattle.std.proofs.lemmas.List.{take_rest}
-use Rattle.decimal.specs.Numbers.{numeral}
-use Rattle.syntax.specs.Tokens.{read, number}
 use Rattle.syntax.proofs.Firsts.{number_is}
 use Rattle.syntax.proofs.tokens.number_token.Goals as goal
 

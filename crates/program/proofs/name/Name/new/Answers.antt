@@ -1,4 +1,4 @@
-use Rattle.std.proofs.Common.{◌≡◌, ◌-◌, set, sym, refl, ap, ◌∙◌, arith}
+use Rattle.std.proofs.Common.{arith}
 use Rattle.program.proofs.Letters.{fill_step, fill_done}
 use Rattle.program.proofs.name.Name.new.Goals as goal
 

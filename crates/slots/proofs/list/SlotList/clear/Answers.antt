@@ -1,4 +1,4 @@
-use Rattle.std.proofs.Common.{◌<◌, length, refl, ◌∙◌, arith, length-set}
+use Rattle.std.proofs.Common.{length, ◌∙◌, arith, length-set}
 use Rattle.slots.proofs.Ends.{filled_more, filled_all}
 use Rattle.slots.proofs.list.SlotList.clear.Goals as goal
 

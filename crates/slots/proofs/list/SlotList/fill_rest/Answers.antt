@@ -1,4 +1,4 @@
-use Rattle.std.proofs.Common.{◌<◌, length, take, refl, ◌∙◌, arith, length-set}
+use Rattle.std.proofs.Common.{length, take, refl, ◌∙◌, arith, length-set}
 use Rattle.slots.proofs.Ends.{rest_none, rest_more, rest_all}
 use Rattle.slots.proofs.list.SlotList.fill_rest.Goals as goal
 
