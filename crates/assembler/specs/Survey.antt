@@ -62,7 +62,7 @@ opened t = record { section = Code; begun = false; code = t.code; «data» = t.�
 abbrev pub fresh : Survey
 fresh = surveyed (record { section = Code; begun = false; code = 0; «data» = 0; heap = 0 }) [] []
 
--- the number of a.UNIT line, which its range keeps below 256
+-- the number of a .UNIT line, which its range keeps below 256
 abbrev pub octet : ℤ → ℕ
 octet (pos n) = elim (nat_le n 255) [ true ↦ n | false ↦ 0 ]
 octet (negsuc n) = 0
