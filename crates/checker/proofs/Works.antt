@@ -1,6 +1,6 @@
 -- The steps of the work.
 use Rattle.std.proofs.Common.{◌≡◌, ℕ, zero, suc, ◌+◌, ◌<◌, ◌≤◌, ◌⊎◌, List, [], ◌∷◌, ◌++◌, length, get_or, set, ℤ, pos, Some, None, Option, sym, refl, ap, ◌∙◌, subst, inl, inr, ⊎_elim, arith}
-use Rattle.std.specs.List.{AllByRecursion as All}
+use Rattle.std.specs.List.{AllByRecursion}
 use Rattle.std.proofs.lemmas.List.{get_or-set_same, get_or-set_other, length_push, get_or_push, get_or_append_left}
 use Rattle.std.proofs.lemmas.Bool.{cases_lt, cases_eq}
 use Rattle.program.specs.declared.fault.CheckCause.{CheckCause}
@@ -58,7 +58,7 @@ grows_set t a s e b q h = by (cases_eq b a)
     by (inl x) = absurd (none_not t a q e (subst (λ (z : ℕ). get_or t z None ≡ Some q) x h))
     by (inr x) = get_or-set_other t a b (Some s) None x ∙ h
 
-all_grow : (t u : Table) (ws : List ℕ) → Grows t u → All (SetAt t) ws → All (SetAt u) ws
+all_grow : (t u : Table) (ws : List ℕ) → Grows t u → AllByRecursion (SetAt t) ws → AllByRecursion (SetAt u) ws
 all_grow t u [] g h = tt
 all_grow t u (w ∷ ws) g h = ((h.0.0, g w h.0.0 h.0.1), all_grow t u ws g h.1)
 
@@ -68,7 +68,7 @@ route_grow P t u to b h g r = (r.0, r.1, all_grow t u r.0 g r.2)
 pub holds_grow : (t u : Table) (b : ℕ) (s : Successor) → Grows t u → Holds (plan_of t) b s → Holds (plan_of u) b s
 holds_grow t u b s g h = (h.0, h.1, g h.0 (planned b s.depth) h.2)
 
-alls_grow : (t u : Table) (b : ℕ) (ss : List Successor) → Grows t u → All (Holds (plan_of t) b) ss → All (Holds (plan_of u) b) ss
+alls_grow : (t u : Table) (b : ℕ) (ss : List Successor) → Grows t u → AllByRecursion (Holds (plan_of t) b) ss → AllByRecursion (Holds (plan_of u) b) ss
 alls_grow t u b [] g h = tt
 alls_grow t u b (s ∷ ss) g h = (holds_grow t u b s g h.0, alls_grow t u b ss g h.1)
 
@@ -171,8 +171,8 @@ module _ (P : Program) where
   pub route_on : (t : Table) (q : List ℕ) → Base P t q → (a : ℕ) (s : Planned) → get_or t a None ≡ Some s → (ss : List Successor) (n : Successor) → Steps P a s.body s.depth ss → In ss n → Route P t n.address s.body n.depth
   route_on t q b a s e ss n st i = let r = b.reached a s e in (a ∷ r.0, on r.0 a s.body s.depth ss n r.1 r.3 (b.seated a s e) st i, ((s, e), r.2))
 
-  pub done_at : (t u : Table) (a : ℕ) (s : Planned) (ss : List Successor) → Grows t u → get_or t a None ≡ Some s → Steps P a s.body s.depth ss → All (Holds (plan_of u) s.body) ss → Done P u a
-  done_at t u a s ss g e st h z f = let x = g a s e in let q : s ≡ z = cc in subst (λ (y : Planned). (ss : List Successor) × Steps P a y.body y.depth ss × All (Holds (plan_of u) y.body) ss) q (ss, st, h)
+  pub done_at : (t u : Table) (a : ℕ) (s : Planned) (ss : List Successor) → Grows t u → get_or t a None ≡ Some s → Steps P a s.body s.depth ss → AllByRecursion (Holds (plan_of u) s.body) ss → Done P u a
+  done_at t u a s ss g e st h z f = let x = g a s e in let q : s ≡ z = cc in subst (λ (y : Planned). (ss : List Successor) × Steps P a y.body y.depth ss × AllByRecursion (Holds (plan_of u) y.body) ss) q (ss, st, h)
 
   pub depth_low : (t : Table) (q : List ℕ) → Base P t q → (a : ℕ) (s : Planned) → get_or t a None ≡ Some s → s.depth ≤ 1000
   depth_low t q b a s e = let w = b.reached a s e in walk_low P w.0 (pos a) s.body s.depth w.1
@@ -229,7 +229,7 @@ module _ (P : Program) where
         least = λ o law a c h e. least o law a c h (b.reached a (planned c h) e);
       }
     where
-      rules : (a c h : ℕ) → Has (plan_of t) a c h → (ss : List Successor) × Steps P a c h ss × All (Holds (plan_of t) c) ss
+      rules : (a c h : ℕ) → Has (plan_of t) a c h → (ss : List Successor) × Steps P a c h ss × AllByRecursion (Holds (plan_of t) c) ss
       rules a c h e = let j = b.queued a (planned c h) e in subst (λ (n : ℕ). Done P t n) j.2 (d j.0 j.1) (planned c h) e
 
       places : (a c h : ℕ) → Has (plan_of t) a c h → (h ≤ 1000) × Sits P a

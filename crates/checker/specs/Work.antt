@@ -1,6 +1,6 @@
 -- The state of the work: a table, and the addresses that have a place in it, in the order in which they came.
 use Rattle.std.specs.Prelude.{◌≡◌, ℕ, zero, suc, ◌+◌, ◌<◌, ◌≤◌, cond, List, map, length, ℤ, pos, Some, None, Option, MatchOption, nat_lt, slice_index, slice_index_or}
-use Rattle.std.specs.List.{AllByRecursion as All}
+use Rattle.std.specs.List.{AllByRecursion}
 use Rattle.isa.specs.Code.{Divides}
 use Rattle.plan.specs.declared.planned.Planned.{Planned}
 use Rattle.plan.specs.declared.successor.Successor.{Successor}
@@ -37,11 +37,11 @@ places_in t (suc n) = filled (slice_index_or t n None) + places_in t n
 
 -- a walk to an address over addresses that have places
 abbrev pub Route : Program → Table → ℤ → ℕ → ℕ → Type 0
-Route P t to b h = (ws : List ℕ) × Walk P ws to b h × All (SetAt t) ws
+Route P t to b h = (ws : List ℕ) × Walk P ws to b h × AllByRecursion (SetAt t) ws
 
 -- the same to an address with a place, which does not come before its end
 abbrev pub Reached : Program → Table → ℕ → Planned → Type 0
-Reached P t a q = (ws : List ℕ) × Walk P ws (pos a) q.body q.depth × All (SetAt t) ws × (In ws a → ⊥)
+Reached P t a q = (ws : List ℕ) × Walk P ws (pos a) q.body q.depth × AllByRecursion (SetAt t) ws × (In ws a → ⊥)
 
 -- q lists the addresses with a place; each may have one, and is reached
 pub record Base (P : Program) (t : Table) (q : List ℕ) : Type 0 where
@@ -68,7 +68,7 @@ pub record Arrived (P : Program) (t u : Table) (q r : List ℕ) : Type 0 where
 
 -- the successors of a place at a have their places
 abbrev pub Done : Program → Table → ℕ → Type 0
-Done P t a = (s : Planned) → slice_index_or t a None ≡ Some s → (ss : List Successor) × Steps P a s.body s.depth ss × All (Holds (plan_of t) s.body) ss
+Done P t a = (s : Planned) → slice_index_or t a None ≡ Some s → (ss : List Successor) × Steps P a s.body s.depth ss × AllByRecursion (Holds (plan_of t) s.body) ss
 
 -- the roots have their places
 abbrev pub Rooted : Program → Table → Type 0

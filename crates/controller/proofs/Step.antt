@@ -2,7 +2,7 @@
 use Rattle.std.proofs.Common.{◌≡◌, ℕ, ◌+◌, ◌-◌, ◌≤◌, Bool, true, false, cond, not, eqb, List, [], ◌∷◌, length, get_or, set, ℤ, pos, negsuc, ◌+ℤ◌, ◌-ℤ◌, Some, Ok, Result, sym, refl, ap, ◌∙◌, subst, inl, inr, arith}
 use Rattle.std.proofs.lemmas.Int.{ints}
 use Rattle.std.proofs.lemmas.List.{get_or-set_same}
-use Rattle.std.specs.List.{AllByRecursion as All}
+use Rattle.std.specs.List.{AllByRecursion}
 use Rattle.std.specs.Fmt.{signed_decimal}
 use Rattle.program.specs.declared.fault.MachineCause.{MachineCause}
 use Rattle.program.specs.declared.fault.MachineCause.TheVariants.{OutsideStack, HeapLimit}
@@ -214,8 +214,8 @@ module _ (B : Box) (p : Plan) (law : Lawful B.program p) (F : List Frame) (x : C
   then op = at_pc (pos (s.a + size op)) x
 
   -- the next place, by the rule
-  next : (op : Opcode) (k : ℤ) (ss : List Successor) → Onto s.a s.h (record { op = op; argument = k }) ss → All (Holds p s.b) ss → Planned p (s.a + size op) s.b (s.h - K.uses (record { op = op; argument = k }) + K.gives (record { op = op; argument = k }))
-  next op k ss o t = holds_is p (s.a + size op) s.b (s.h - K.uses (record { op = op; argument = k }) + K.gives (record { op = op; argument = k })) (subst (All (Holds p s.b)) o.1 t).0
+  next : (op : Opcode) (k : ℤ) (ss : List Successor) → Onto s.a s.h (record { op = op; argument = k }) ss → AllByRecursion (Holds p s.b) ss → Planned p (s.a + size op) s.b (s.h - K.uses (record { op = op; argument = k }) + K.gives (record { op = op; argument = k }))
+  next op k ss o t = holds_is p (s.a + size op) s.b (s.h - K.uses (record { op = op; argument = k }) + K.gives (record { op = op; argument = k })) (subst (AllByRecursion (Holds p s.b)) o.1 t).0
 
   joined : (op : Opcode) (k : ℤ) → At op k → Quiet op → (o : Binary) → 2 ≤ s.h → Planned p (s.a + size op) s.b (s.h - 2 + 1) → Good B p F x (joins (binary o) (then op))
   joined op k e q o l r = joins_good B p law F x gr s op k e q (binary o) (binary_late o) l r
@@ -234,10 +234,10 @@ module _ (B : Box) (p : Plan) (law : Lawful B.program p) (F : List Frame) (x : C
   gone : (op : Opcode) (k : ℤ) → At op k → Quiet op → 1 ≤ s.h → Planned p (s.a + size op) s.b (s.h - 1 + 0) → After B p F x (popped 1 (then op))
   gone op k e q l r = drops B p law F x gr s op k e q l r
 
-  by_rule : (op : Opcode) (k : ℤ) (ss : List Successor) → At op k → RuleOf B.program s.a s.b s.h (record { op = op; argument = k }) ss (K.kind op) → All (Holds p s.b) ss → Good B p F x (exec B.layout x.reg.pc op k (then op))
+  by_rule : (op : Opcode) (k : ℤ) (ss : List Successor) → At op k → RuleOf B.program s.a s.b s.h (record { op = op; argument = k }) ss (K.kind op) → AllByRecursion (Holds p s.b) ss → Good B p F x (exec B.layout x.reg.pc op k (then op))
   by_rule O.Push k ss e (inl c) t =
       let d = c.1.2 in
-      let back : Planned p (s.a + 3) s.b (s.h - c.1.1.arguments) = holds_is p (s.a + 3) s.b (s.h - c.1.1.arguments) (subst (All (Holds p s.b)) d.back t).0 in
+      let back : Planned p (s.a + 3) s.b (s.h - c.1.1.arguments) = holds_is p (s.a + 3) s.b (s.h - c.1.1.arguments) (subst (AllByRecursion (Holds p s.b)) d.back t).0 in
       room_good B p F x 1 (λ y. goes (pushed k y)) (then O.Push) (λ l. entering B p law F x gr s k c.1.0 c.1.1 e (record { is_call = c.0; listed = d.listed; enters = d.enters; deep = d.deep; back = back }) l)
   by_rule O.Push k ss e (inr r) t = came O.Push k e (refl, refl) (λ _. k) (next O.Push k ss r.1 t)
   by_rule O.Add k ss e r t = joined O.Add k e (refl, refl) B2.Add r.0 (next O.Add k ss r t)
@@ -259,13 +259,13 @@ module _ (B : Box) (p : Plan) (law : Lawful B.program p) (F : List Frame) (x : C
   by_rule O.Pop k ss e r t = uses_good B p F x 1 (λ c. goes (popped 1 c)) (then O.Pop) (deep B p law F x gr s 1 r.0) (gone O.Pop k e (refl, refl) r.0 (next O.Pop k ss r t))
   by_rule O.Swap k ss e r t = swaps_good B p law F x gr s O.Swap k e (refl, refl) r.0 (next O.Swap k ss r t)
   by_rule O.Jump k ss e r t =
-      let g : Holds p s.b (to k s.h) = (subst (All (Holds p s.b)) r t).0 in
+      let g : Holds p s.b (to k s.h) = (subst (AllByRecursion (Holds p s.b)) r t).0 in
       moved B p law F x gr s O.Jump k e (refl, refl) (at_pc k (then O.Jump)) g.0 s.h g.1 refl s.sp_is g.2 gr.low gr.above (calm_same B F s.f x.mem)
   by_rule O.Bf k ss e r t =
-      let g = subst (All (Holds p s.b)) r.1 t in
+      let g = subst (AllByRecursion (Holds p s.b)) r.1 t in
       uses_good B p F x 1 (λ c. goes (popped 1 (cond (is_zero (top c)) (at_pc k c) c))) (then O.Bf) (deep B p law F x gr s 1 r.0) (forks B p law F x gr s O.Bf k e (refl, refl) k (is_zero (top x)) r.0 g.0 (holds_is p (s.a + 2) s.b (s.h - 1) g.1.0))
   by_rule O.Bt k ss e r t =
-      let g = subst (All (Holds p s.b)) r.1 t in
+      let g = subst (AllByRecursion (Holds p s.b)) r.1 t in
       uses_good B p F x 1 (λ c. goes (popped 1 (cond (is_zero (top c)) c (at_pc k c)))) (then O.Bt) (deep B p law F x gr s 1 r.0) (forks_back B p law F x gr s O.Bt k e (refl, refl) k (is_zero (top x)) r.0 g.0 (holds_is p (s.a + 2) s.b (s.h - 1) g.1.0))
   by_rule O.Nop k ss e r t = went O.Nop k e (refl, refl) (next O.Nop k ss r t)
   by_rule O.Read k ss e r t = room_good B p F x 1 takes (then O.Read) (λ l v. comes B p law F x gr s O.Read k e (refl, refl) v (s.h - 0 + 1) (omega arith) l (next O.Read k ss r t))

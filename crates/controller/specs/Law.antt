@@ -1,6 +1,6 @@
 -- The three laws of a controller whose program has a lawful plan.
 use Rattle.std.specs.Prelude.{◌≡◌, ℕ, zero, suc, ◌+◌, ◌<◌, ◌≤◌, cond, ◌⊎◌, List, take, pos, ◌+ℤ◌, Some, None, Ok, Err, Option, Result, ◌==◌, slice_index_or}
-use Rattle.std.specs.List.{AllByRecursion as All}
+use Rattle.std.specs.List.{AllByRecursion}
 use Rattle.program.specs.declared.fault.Fault.{Fault}
 use Rattle.program.specs.declared.unit.Unit.{Unit as UnitRecord}
 use Rattle.program.specs.Faults.{refusal}
@@ -35,7 +35,7 @@ fault_in (Err f) = (refusal f).number
 
 -- no run answered a fault from 22 to 26
 abbrev pub Unfaulted : Life → Type 0
-Unfaulted l = All (λ (a : Result Report Fault). (fault_in a < 22) ⊎ (26 < fault_in a)) l.answers
+Unfaulted l = AllByRecursion (λ (a : Result Report Fault). (fault_in a < 22) ⊎ (26 < fault_in a)) l.answers
 
 -- the instruction that the step from c does
 abbrev pub doing : Layout → Core → Option Fetched

@@ -1,6 +1,6 @@
 -- The rules as a plan meets them: each planned address with its instruction, and the rule with the plan inside.
 use Rattle.std.proofs.Common.{◌≡◌, ℕ, ◌+◌, ◌-◌, ◌<◌, ◌≤◌, ◌⊎◌, List, [], ◌∷◌, ℤ, pos, ◌≤ℤ◌, Some, subst, inl, inr}
-use Rattle.std.specs.List.{AllByRecursion as All}
+use Rattle.std.specs.List.{AllByRecursion}
 use Rattle.program.specs.declared.unit.Unit.{Unit as UnitRecord}
 use Rattle.isa.specs.declared.instruction.Instruction.{Instruction}
 use Rattle.isa.specs.Code.{instruction}
@@ -44,13 +44,13 @@ module _ (P : Program) (p : Plan) (a b h : ℕ) (i : Instruction) where
   held : (x d : ℕ) → Holds p b (to (pos x) d) → Has p x b d
   held x d q = let e = q.1 in let f : q.0 ≡ x = cc in subst (λ (z : ℕ). Has p z b d) f q.2
 
-  lone : (ss : List Successor) (s : Successor) → ss ≡ s ∷ [] → All (Holds p b) ss → Holds p b s
-  lone ss s e al = (subst (λ (z : List Successor). All (Holds p b) z) e al).0
+  lone : (ss : List Successor) (s : Successor) → ss ≡ s ∷ [] → AllByRecursion (Holds p b) ss → Holds p b s
+  lone ss s e al = (subst (λ (z : List Successor). AllByRecursion (Holds p b) z) e al).0
 
-  onto_in : (ss : List Successor) → Onto a h i ss → All (Holds p b) ss → OntoIn
+  onto_in : (ss : List Successor) → Onto a h i ss → AllByRecursion (Holds p b) ss → OntoIn
   onto_in ss o al = (o.0, held (a + size i.op) (h - uses i + gives i) (lone ss _ o.1 al))
 
-  pub rule_in : (ss : List Successor) (k : Kind) → RuleOf P a b h i ss k → All (Holds p b) ss → RuleIn k
+  pub rule_in : (ss : List Successor) (k : Kind) → RuleOf P a b h i ss k → AllByRecursion (Holds p b) ss → RuleIn k
   rule_in ss Moves r al = onto_in ss r al
   rule_in ss Ruleless r al = r
   rule_in ss Pushes (inl r) al =
@@ -59,7 +59,7 @@ module _ (P : Program) (p : Plan) (a b h : ℕ) (i : Instruction) where
   rule_in ss Ends r al = r.0
   rule_in ss Halts r al = tt
   rule_in ss Jumps r al = lone ss _ r al
-  rule_in ss Branches r al = let q = subst (λ (z : List Successor). All (Holds p b) z) r.1 al in (q.0, r.0, held (a + size i.op) (h - 1) q.1.0)
+  rule_in ss Branches r al = let q = subst (λ (z : List Successor). AllByRecursion (Holds p b) z) r.1 al in (q.0, r.0, held (a + size i.op) (h - 1) q.1.0)
   rule_in ss Frames r al = (r.0, onto_in ss r.1 al)
   rule_in ss Counts r al = (r.0, onto_in ss r.1 al)
 

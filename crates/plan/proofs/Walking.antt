@@ -1,6 +1,6 @@
 -- Walks, lawful plans, and refusals.
 use Rattle.std.proofs.Common.{◌≡◌, ℕ, ◌+◌, ◌-◌, ◌≤◌, List, [], ◌∷◌, ℤ, pos, Some, None, Option, sym, refl, ap, ◌∙◌, subst, inl, inr, arith}
-use Rattle.std.specs.List.{AllByRecursion as All}
+use Rattle.std.specs.List.{AllByRecursion}
 use Rattle.std.proofs.lemmas.Int.{ints}
 use Rattle.program.specs.declared.fault.CheckCause.{CheckCause}
 use Rattle.program.specs.declared.fault.CheckCause.TheVariants.{TableSize, MemoryLength, NoDivision, BadEntry, NoInstruction, NoRule, ShallowDepth, OutsideFrame, TooDeep, DifferentWays}
@@ -20,7 +20,7 @@ use Rattle.plan.proofs.Listing.{listed_same}
 use Rattle.plan.proofs.Dividing.{stops_not}
 use Rattle.plan.proofs.Rows.{Fixed, fixed}
 
-pub all_in : {X : Type 0} (Q : X → Type 0) (xs : List X) (x : X) → All Q xs → In xs x → Q x
+pub all_in : {X : Type 0} (Q : X → Type 0) (xs : List X) (x : X) → AllByRecursion Q xs → In xs x → Q x
 all_in Q [] x h i = absurd i
 all_in Q (y ∷ ys) x h (inl e) = subst Q e h.0
 all_in Q (y ∷ ys) x h (inr i) = all_in Q ys x h.1 i
@@ -154,7 +154,7 @@ module _ (P : Program) (p : Plan) (law : Lawful P p) where
       let u = walk_planned xs (pos a) c k w in
       let e : u.0 ≡ a = sym (pos_same a u.0 u.1) in
       let v = law.rules a c k (subst (λ (z : ℕ). Has p z c k) e u.2) in
-      all_in (Holds p c) ss s (subst (λ (z : List Successor). All (Holds p c) z) (sym (steps_same a c k ss v.0 st v.1)) v.2) i
+      all_in (Holds p c) ss s (subst (λ (z : List Successor). AllByRecursion (Holds p c) z) (sym (steps_same a c k ss v.0 st v.1)) v.2) i
 
   walked_at : (ws : List ℕ) (a b h : ℕ) → Walk P ws (pos a) b h → Has p a b h
   walked_at ws a b h w = let u = walk_planned ws (pos a) b h w in subst (λ (z : ℕ). Has p z b h) (sym (pos_same a u.0 u.1)) u.2

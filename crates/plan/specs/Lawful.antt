@@ -1,7 +1,7 @@
 -- Plans, lawful plans, and the least of them.
 use Rattle.isa.specs.Code.{Divided}
 use Rattle.std.specs.Prelude.{◌≡◌, ℕ, suc, ◌+◌, ◌≤◌, List, pos, Some, None, Option, slice_index_or}
-use Rattle.std.specs.List.{AllByRecursion as All}
+use Rattle.std.specs.List.{AllByRecursion}
 use Rattle.program.specs.declared.unit.Unit.{Unit as UnitRecord}
 use Rattle.plan.specs.declared.planned.Planned.{Planned}
 use Rattle.plan.specs.declared.successor.Successor.{Successor}
@@ -34,7 +34,7 @@ pub record Lawful (P : Program) (p : Plan) : Type 0 where
   pub divides : Divided P.code
   pub units : Opened P
   pub roots : (a b : ℕ) → Root P a b → Has p a b 0
-  pub rules : (a b h : ℕ) → Has p a b h → (ss : List Successor) × Steps P a b h ss × All (Holds p b) ss
+  pub rules : (a b h : ℕ) → Has p a b h → (ss : List Successor) × Steps P a b h ss × AllByRecursion (Holds p b) ss
   pub places : (a b h : ℕ) → Has p a b h → (h ≤ 1000) × Sits P a
 
 -- a lawful plan that every lawful plan contains

@@ -1,6 +1,6 @@
 -- The rule of the instruction i at a place: at address a, in body b, with depth h.
 use Rattle.std.specs.Prelude.{◌≡◌, ℕ, zero, suc, ◌+◌, ◌-◌, ◌<◌, ◌≤◌, ◌⊎◌, List, [], ◌∷◌, ℤ, pos, neg_ℤ, ◌≤ℤ◌, ◌<ℤ◌, Some}
-use Rattle.std.specs.List.{AllByRecursion as All}
+use Rattle.std.specs.List.{AllByRecursion}
 use Rattle.program.specs.declared.unit.Unit.{Unit as UnitRecord}
 use Rattle.isa.specs.declared.opcode.Opcode.TheVariants.{Call, Ret}
 use Rattle.isa.specs.declared.instruction.Instruction.{Instruction}
@@ -71,7 +71,7 @@ Rule P a b h i ss = RuleOf P a b h i ss (kind i.op)
 
 -- the depths of successors are at most 1,000
 abbrev pub Low : List Successor → Type 0
-Low ss = All (λ (s : Successor). s.depth ≤ 1000) ss
+Low ss = AllByRecursion (λ (s : Successor). s.depth ≤ 1000) ss
 
 -- the rule of the place fits, with the successors ss
 pub record Steps (P : Program) (a b h : ℕ) (ss : List Successor) : Type 0 where

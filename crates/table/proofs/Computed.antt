@@ -1,7 +1,7 @@
 -- The rows, computed.
 use Rattle.std.proofs.Common.{◌≡◌, ℕ, ◌-◌, true, List, [], ◌∷◌, ◌++◌, map, length, take, replicate, ℤ, pos, negsuc, codes, sym, refl, ap, subst, arith}
 use Rattle.std.specs.Fmt.{digits}
-use Rattle.std.specs.List.{AllByRecursion as All}
+use Rattle.std.specs.List.{AllByRecursion}
 use Rattle.program.specs.declared.name.Name.{Name}
 use Rattle.program.specs.declared.section.Section.TheVariants.{Code}
 use Rattle.program.specs.declared.unit.Unit.{Unit as UnitRecord}
@@ -89,7 +89,7 @@ abbrev ◌⨾◌ : {X Y : Type 0} → X → Y → X × Y
 x ⨾ y = (x, y)
 
 -- runs compute; of the check its test computes
-pub examples_stand_lem : All Stands examples
+pub examples_stand_lem : AllByRecursion Stands examples
 unfolding runs step performed digits
 examples_stand_lem =
     (_, refl, refl)

@@ -1,6 +1,6 @@
 -- A plan of the ends of all walks, and a test that it is lawful.
 use Rattle.std.proofs.Common.{◌≡◌, ℕ, suc, ◌+◌, ◌≤◌, Bool, true, false, ◌&&◌, eqb, leb, List, [], ◌∷◌, ℤ, pos, negsuc, Some, None, Option, refl, ap, ◌∙◌, subst, inl, inr, arith}
-use Rattle.std.specs.List.{AllByRecursion as All}
+use Rattle.std.specs.List.{AllByRecursion}
 use Rattle.std.proofs.lemmas.Bool.{false≢true, eqb-true, leb-true, and_parts}
 use Rattle.program.specs.declared.unit.Unit.{Unit as UnitRecord}
 use Rattle.isa.specs.declared.instruction.Instruction.{Instruction}
@@ -50,7 +50,7 @@ pair_is : (b h : ℕ) (o : Option Planned) → is_pair b h o ≡ true → o ≡ 
 pair_is b h None t = absurd (false≢true t)
 pair_is b h (Some q) t = let r = and_parts (eqb q.body b) (eqb q.depth h) t in ap (λ (m : ℕ). Some (planned m q.depth)) (eqb-true q.body b r.0) ∙ ap (λ (m : ℕ). Some (planned b m)) (eqb-true q.depth h r.1)
 
-each_all : {X : Type 0} (Q : X → Type 0) (f : X → Bool) → ((x : X) → f x ≡ true → Q x) → (xs : List X) → each f xs ≡ true → All Q xs
+each_all : {X : Type 0} (Q : X → Type 0) (f : X → Bool) → ((x : X) → f x ≡ true → Q x) → (xs : List X) → each f xs ≡ true → AllByRecursion Q xs
 each_all Q f g [] t = tt
 each_all Q f g (x ∷ xs) t = let q = and_parts (f x) (each f xs) t in (g x q.0, each_all Q f g xs q.1)
 
@@ -85,7 +85,7 @@ module _ (P : Program) (S : List End) where
 
   -- what a lawful plan asks at a place
   Asked : ℕ → ℕ → ℕ → Type 0
-  Asked a b h = ((ss : List Successor) × Steps P a b h ss × All (Holds (place_in S) b) ss) × ((h ≤ 1000) × Sits P a)
+  Asked a b h = ((ss : List Successor) × Steps P a b h ss × AllByRecursion (Holds (place_in S) b) ss) × ((h ≤ 1000) × Sits P a)
 
   asked : (x : End) → lawful_at x ≡ true → Asked x.at x.body x.depth
   unfolding Asked
@@ -95,7 +95,7 @@ module _ (P : Program) (S : List End) where
       let l = leb-true x.depth 1000 r.0 in
       (at l (instruction P.code x.at) refl r.1, (l, sits_is P x.at q.0))
     where
-      at : x.depth ≤ 1000 → (o : Option Instruction) → instruction P.code x.at ≡ o → ruled_by x o ≡ true → (ss : List Successor) × Steps P x.at x.body x.depth ss × All (Holds (place_in S) x.body) ss
+      at : x.depth ≤ 1000 → (o : Option Instruction) → instruction P.code x.at ≡ o → ruled_by x o ≡ true → (ss : List Successor) × Steps P x.at x.body x.depth ss × AllByRecursion (Holds (place_in S) x.body) ss
       at l None e f = absurd (false≢true f)
       at l (Some i) e f =
           let ss = nexts P x.at x.body x.depth i (kind i.op) in

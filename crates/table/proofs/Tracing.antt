@@ -1,6 +1,6 @@
 -- The ends of all walks, as a list: a test that a list is closed, and what it says of every walk.
 use Rattle.std.proofs.Common.{◌≡◌, ℕ, zero, suc, ◌+◌, ◌≤◌, Bool, true, false, not, ◌&&◌, ◌||◌, eqb, leb, ◌⊎◌, List, [], ◌∷◌, ◌++◌, length, ℤ, pos, negsuc, Some, None, Option, sym, refl, ap, ◌∙◌, subst, inl, inr, arith}
-use Rattle.std.specs.List.{flat_map, AllByRecursion as All}
+use Rattle.std.specs.List.{flat_map, AllByRecursion}
 use Rattle.std.proofs.lemmas.Bool.{false≢true, eqb-true, eq-eqb, leb-true, and_parts, or_cases, or_left, or_right, not-true, both_ways}
 use Rattle.std.proofs.ByRecursion.{All-append}
 use Rattle.program.specs.Names.{same}
@@ -172,7 +172,7 @@ module _ (P : Program) where
       end ws a b h
       ∷ elim (sits P a && not (seen a ws)) [ false ↦ [] | true ↦ flat_map (λ s. elim s.address [ pos t ↦ trace n (a ∷ ws) t b s.depth | negsuc t ↦ [] ]) (successors a b h) ]
 
-  all_joined : {X Y : Type 0} (Q : Y → Type 0) (f : X → List Y) (xs : List X) → ((x : X) → In xs x → All Q (f x)) → All Q (flat_map f xs)
+  all_joined : {X Y : Type 0} (Q : Y → Type 0) (f : X → List Y) (xs : List X) → ((x : X) → In xs x → AllByRecursion Q (f x)) → AllByRecursion Q (flat_map f xs)
   all_joined Q f [] g = tt
   all_joined Q f (x ∷ xs) g = All-append Q (f x) (flat_map f xs) (g x (inl refl)) (all_joined Q f xs (λ y i. g y (inr i)))
 
@@ -187,16 +187,16 @@ module _ (P : Program) where
       at None e i = absurd i
       at (Some j) e i = by j e (fits P a b h j) refl i
 
-  trace_walks : (n : ℕ) (ws : List ℕ) (a b h : ℕ) → Walk P ws (pos a) b h → All Ended (trace n ws a b h)
+  trace_walks : (n : ℕ) (ws : List ℕ) (a b h : ℕ) → Walk P ws (pos a) b h → AllByRecursion Ended (trace n ws a b h)
   trace_walks zero ws a b h w = tt
   trace_walks (suc n) ws a b h w = (w, at (sits P a && not (seen a ws)) refl (λ vs c d k x. trace_walks n vs c d k x))
     where
-      from : ((vs : List ℕ) (c d k : ℕ) → Walk P vs (pos c) d k → All Ended (trace n vs c d k)) → (s : Successor) (z : ℤ) → s.address ≡ z → Walk P (a ∷ ws) s.address b s.depth → All Ended (elim z [ pos t ↦ trace n (a ∷ ws) t b s.depth | negsuc t ↦ [] ])
+      from : ((vs : List ℕ) (c d k : ℕ) → Walk P vs (pos c) d k → AllByRecursion Ended (trace n vs c d k)) → (s : Successor) (z : ℤ) → s.address ≡ z → Walk P (a ∷ ws) s.address b s.depth → AllByRecursion Ended (elim z [ pos t ↦ trace n (a ∷ ws) t b s.depth | negsuc t ↦ [] ])
       from more s (pos t) e x = more (a ∷ ws) t b s.depth (subst (λ (z : ℤ). Walk P (a ∷ ws) z b s.depth) e x)
       from more s (negsuc t) e x = tt
 
-      at : (g : Bool) → (sits P a && not (seen a ws)) ≡ g → ((vs : List ℕ) (c d k : ℕ) → Walk P vs (pos c) d k → All Ended (trace n vs c d k)) →
-          All Ended (elim g [ false ↦ [] | true ↦ flat_map (λ s. elim s.address [ pos t ↦ trace n (a ∷ ws) t b s.depth | negsuc t ↦ [] ]) (successors a b h) ])
+      at : (g : Bool) → (sits P a && not (seen a ws)) ≡ g → ((vs : List ℕ) (c d k : ℕ) → Walk P vs (pos c) d k → AllByRecursion Ended (trace n vs c d k)) →
+          AllByRecursion Ended (elim g [ false ↦ [] | true ↦ flat_map (λ s. elim s.address [ pos t ↦ trace n (a ∷ ws) t b s.depth | negsuc t ↦ [] ]) (successors a b h) ])
       at false g more = tt
       at true g more =
           let q = and_parts (sits P a) (not (seen a ws)) g in
@@ -207,7 +207,7 @@ module _ (P : Program) where
   unit_ends n k [] = []
   unit_ends n k (v ∷ vs) = trace n [] (v.entry + 3) (suc k) 0 ++ unit_ends n (suc k) vs
 
-  unit_walks : (n k : ℕ) (vs : List UnitRecord) → ((j : ℕ) (v : UnitRecord) → Listed vs j v → Walk P [] (pos (v.entry + 3)) (suc (k + j)) 0) → All Ended (unit_ends n k vs)
+  unit_walks : (n k : ℕ) (vs : List UnitRecord) → ((j : ℕ) (v : UnitRecord) → Listed vs j v → Walk P [] (pos (v.entry + 3)) (suc (k + j)) 0) → AllByRecursion Ended (unit_ends n k vs)
   unit_walks n k [] f = tt
   unit_walks n k (v ∷ vs) f =
       let z : k + 0 ≡ k = omega arith in
@@ -219,7 +219,7 @@ module _ (P : Program) where
   abbrev pub ends : List End
   ends = trace (suc (length P.code)) [] 0 0 0 ++ unit_ends (suc (length P.code)) 0 P.units
 
-  pub ends_walks : All Ended ends
+  pub ends_walks : AllByRecursion Ended ends
   ends_walks =
       All-append Ended (trace (suc (length P.code)) [] 0 0 0) (unit_ends (suc (length P.code)) 0 P.units)
       (trace_walks (suc (length P.code)) [] 0 0 0 (root 0 0 main))

@@ -1,6 +1,6 @@
 -- From the ends of all walks to what the check says.
 use Rattle.std.proofs.Common.{◌≡◌, ℕ, Bool, true, false, not, ◌&&◌, ◌||◌, eqb, ◌⊎◌, List, [], ◌∷◌, ℤ, pos, Some, None, Option, sym, refl, ap, ◌∙◌, subst, inl, inr}
-use Rattle.std.specs.List.{AllByRecursion as All}
+use Rattle.std.specs.List.{AllByRecursion}
 use Rattle.std.proofs.lemmas.Bool.{false≢true, eqb-true, eq-eqb, and_parts, and_from, or_cases, not-true, both_ways}
 use Rattle.program.specs.declared.fault.CheckCause.{CheckCause}
 use Rattle.program.specs.declared.fault.CheckCause.TheVariants.{TableSize, MemoryLength, NoDivision, BadEntry, NoInstruction, NoRule, ShallowDepth, OutsideFrame, TooDeep, DifferentWays}
@@ -122,7 +122,7 @@ module _ (P : Program) where
   abbrev Happens : Type 0
   Happens = (d : CheckCause) × (z : ℕ) × Turn P d × Due P d (pos z)
 
-  module _ (S : List End) (good : Sound P) (w : All (Ended P) S) where
+  module _ (S : List End) (good : Sound P) (w : AllByRecursion (Ended P) S) where
     ended : (x : End) → In S x → Ended P x
     ended x i = all_in (Ended P) S x w i
 

@@ -1,7 +1,7 @@
 #![tactic(auto)]
 
 // The proved table of examples.
-ghost use Rattle.std.specs.List.{AllByRecursion as All};
+ghost use Rattle.std.specs.List.{AllByRecursion};
 ghost use Rattle.table.specs.Examples.{examples};
 ghost use Rattle.table.specs.Rows.{Stands};
 ghost use Rattle.std.specs.Prelude.{◌≡◌, length};
@@ -15,7 +15,7 @@ fn rows() -> usize
 
 // Every row of the table stands. It answers how many there are.
 pub fn examples_stand() -> usize
-    ensures stand { All Stands examples }
+    ensures stand { AllByRecursion Stands examples }
     ensures rows { result ≡ length examples }
 {
     rows()
