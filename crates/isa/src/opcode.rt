@@ -1,5 +1,5 @@
 // The 49 instructions, in the order of their opcodes, which run from 1.
-#[derive(Clone, Copy)]
+#[derive(Clone, Copy, PartialEq, Eq)]
 pub enum Opcode {
     Push,
     Add,
@@ -54,7 +54,7 @@ pub enum Opcode {
 
 // What an instruction takes after its mnemonic: nothing, a number or a label, a label, a count from 0 to 1,000,
 // or a number. All but the first stand in one argument cell.
-#[derive(Clone, Copy)]
+#[derive(Clone, Copy, PartialEq, Eq)]
 pub enum Operand {
     Absent,
     Value,

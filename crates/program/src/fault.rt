@@ -1,5 +1,5 @@
 // One of the two texts that a program is assembled from.
-#[derive(Clone, Copy)]
+#[derive(Clone, Copy, PartialEq, Eq)]
 pub enum Text {
     Site,
     Library,
@@ -7,7 +7,7 @@ pub enum Text {
 
 // Where a fault stands: nowhere, at a line of a text (line 0 is the text as a whole), at an address of the
 // code, or at the instruction that pc points to.
-#[derive(Clone, Copy)]
+#[derive(Clone, Copy, PartialEq, Eq)]
 pub enum Place {
     Nowhere,
     Line(Text, u32),
@@ -16,7 +16,7 @@ pub enum Place {
 }
 
 // Why two texts do not assemble.
-#[derive(Clone, Copy)]
+#[derive(Clone, Copy, PartialEq, Eq)]
 pub enum AssemblyCause {
     MemorySize,
     TextLength,
@@ -32,7 +32,7 @@ pub enum AssemblyCause {
 }
 
 // Why a program does not pass the check.
-#[derive(Clone, Copy)]
+#[derive(Clone, Copy, PartialEq, Eq)]
 pub enum CheckCause {
     TableSize,
     MemoryLength,
@@ -47,7 +47,7 @@ pub enum CheckCause {
 }
 
 // Why a machine does not run on.
-#[derive(Clone, Copy)]
+#[derive(Clone, Copy, PartialEq, Eq)]
 pub enum MachineCause {
     MemoryLength,
     NoInstruction,
@@ -65,14 +65,14 @@ pub enum MachineCause {
 }
 
 // Why a port takes no more.
-#[derive(Clone, Copy)]
+#[derive(Clone, Copy, PartialEq, Eq)]
 pub enum PortCause {
     NoOpening,
     NoSpace,
 }
 
 // A refusal or a fault: the layer that speaks, its cause, and its place.
-#[derive(Clone, Copy)]
+#[derive(Clone, Copy, PartialEq, Eq)]
 pub enum Fault {
     Assembly(AssemblyCause, Place),
     Check(CheckCause, Place),

@@ -1,5 +1,5 @@
 // A part of the memory that lines assemble into.
-#[derive(Clone, Copy)]
+#[derive(Clone, Copy, PartialEq, Eq)]
 pub enum Section {
     Code,
     Data,
