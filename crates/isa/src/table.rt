@@ -1,7 +1,7 @@
 // Opcodes by number and by mnemonic, and what each takes.
-ghost use Rattle.isa.specs.Table.{operand_cells, decoded, number, operand, size, mnemonic_place, named, nth, order};
-ghost use Rattle.program.specs.Names.{smalls};
-ghost use Rattle.std.specs.Prelude.{◌≡◌, ℤ, pos, Some, None, MatchResult};
+ghost use Rattle.isa.specs.Table.{operand_cells, decoded, number, operand, size, named, nth, order};
+ghost use Rattle.program.specs.Names.{same, smalls};
+ghost use Rattle.std.specs.Prelude.{◌≡◌, ℤ, pos, Some, None, MatchResult, position};
 
 use crate::opcode::{NoOpcode, Opcode, Operand};
 use program::is_word;
@@ -185,16 +185,16 @@ pub fn length_of(op: Opcode) -> usize
     1 + argument_cells(operand_of(op))
 }
 
-// The place of a word, in small letters, among the mnemonics.
-fn place_of(word: &[u8]) -> Option<usize>
-    ensures { result ≡ mnemonic_place (smalls word.now) }
+// The place of a word, in small letters, among names.
+fn place_in(names: &[&[u8]], word: &[u8]) -> Option<usize>
+    ensures { result ≡ position (λ name. same (smalls word.now) name.now) names.now }
 {
-    MNEMONICS.iter().position(|name| is_word(word, name))
+    names.iter().position(|name| is_word(word, name))
 }
 
 // The opcode of a mnemonic, whose letters may be capitals.
 pub fn opcode_named(word: &[u8]) -> Option<Opcode>
     ensures { result ≡ named (smalls word.now) }
 {
-    place_of(word).and_then(opcode_at)
+    place_in(&MNEMONICS, word).and_then(opcode_at)
 }
