@@ -3,18 +3,11 @@
 // What the arithmetic, logic and comparison instructions make of cells, which are signed 32-bit numbers.
 mod operation;
 
-ghost use Rattle.std.specs.Prelude.{◌≡◌, Bool};
-ghost use Rattle.arithmetic.specs.Cells.{divided, remained, bit, binary, unary};
+ghost use Rattle.std.specs.Prelude.{◌≡◌};
+ghost use Rattle.arithmetic.specs.Cells.{divided, remained, binary, unary};
 
 pub use operation::{Binary, Unary};
 use program::MachineCause;
-
-// True is 1, and false 0.
-fn flag(b: bool) -> i32
-    ensures { result ≡ bit b }
-{
-    if b { 1 } else { 0 }
-}
 
 // The quotient, truncated toward zero.
 fn divide(a: i32, b: i32) -> Result<i32, MachineCause>
@@ -33,13 +26,11 @@ fn remainder(a: i32, b: i32) -> Result<i32, MachineCause>
     if b == 0 {
         return Err(MachineCause::DivisorZero);
     }
-    if b == -1 {
-        return Ok(0);
-    }
-    Ok(a % b)
+    Ok(a.wrapping_rem(b))
 }
 
 // What an operation makes of two cells: `a` was pushed before `b`.
+// Stays: one match over the operations, since a closure for each would name an enum of them all the same.
 pub fn compute(op: Binary, a: i32, b: i32) -> Result<i32, MachineCause>
     ensures { result ≡ binary op a b }
 {
@@ -49,14 +40,14 @@ pub fn compute(op: Binary, a: i32, b: i32) -> Result<i32, MachineCause>
         Binary::Mul => a.checked_mul(b).ok_or(MachineCause::Overflow),
         Binary::Div => divide(a, b),
         Binary::Mod => remainder(a, b),
-        Binary::And => Ok(flag(a != 0 && b != 0)),
-        Binary::Or => Ok(flag(a != 0 || b != 0)),
-        Binary::Eq => Ok(flag(a == b)),
-        Binary::Ne => Ok(flag(a != b)),
-        Binary::Lt => Ok(flag(a < b)),
-        Binary::Gt => Ok(flag(a > b)),
-        Binary::Le => Ok(flag(a <= b)),
-        Binary::Ge => Ok(flag(a >= b)),
+        Binary::And => Ok(i32::from(a != 0 && b != 0)),
+        Binary::Or => Ok(i32::from(a != 0 || b != 0)),
+        Binary::Eq => Ok(i32::from(a == b)),
+        Binary::Ne => Ok(i32::from(a != b)),
+        Binary::Lt => Ok(i32::from(a < b)),
+        Binary::Gt => Ok(i32::from(a > b)),
+        Binary::Le => Ok(i32::from(a <= b)),
+        Binary::Ge => Ok(i32::from(a >= b)),
     }
 }
 

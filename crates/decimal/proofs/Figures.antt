@@ -1,20 +1,13 @@
 -- Digits one by one, and decimal numbers, cut at a limit.
-use Rattle.std.proofs.Common.{◌≡◌, ℕ, zero, suc, ◌+◌, ◌-◌, ◌*◌, ◌<◌, ◌≤◌, true, false, List, [], ◌∷◌, length, get_or, drop, ℤ, pos, neg_ℤ, Some, None, Option, refl, ap, ◌∙◌, inl, inr, arith, MatchOption}
+use Rattle.std.proofs.Common.{◌≡◌, ℕ, zero, suc, ◌+◌, ◌-◌, ◌*◌, ◌<◌, ◌≤◌, true, false, List, [], ◌∷◌, ◌++◌, ◌&&◌, ◌==◌, length, get_or, drop, ℤ, pos, neg_ℤ, Some, None, Option, refl, ap, ◌∙◌, arith, MatchOption}
 use Rattle.std.proofs.lemmas.Bool.Decides.{nat_tests}
-use Rattle.std.proofs.lemmas.List.{drop_more, drop_all}
-use Rattle.std.proofs.lemmas.Bool.{cases_lt}
+use Rattle.std.specs.List.{list_all}
 use Rattle.decimal.specs.Numbers.{natural, numeral, capped, cell_range, only_digits, are_all_digits, is_numeral_text, digit}
 
-pub natural_ge : (n : ℕ) (cs : List ℕ) → n ≤ natural n cs
-natural_ge n [] = omega arith
-natural_ge n (c ∷ cs) = omega (arith, natural_ge (10 * n + (c - 48)) cs)
-
--- a number that is cut before its last digits is cut after them
-pub natural_cut : (m : ℕ) (cs : List ℕ) → capped (natural (capped m) cs) ≡ capped (natural m cs)
-natural_cut m cs = elim (cases_lt m 2147483649) [ inl h ↦ (let e : capped m ≡ m = omega arith in rw e refl) | inr h ↦ omega (arith, natural_ge m cs, natural_ge (capped m) cs) ]
-
-pub natural_more : (n : ℕ) (xs : List ℕ) (i : ℕ) → i < length xs → natural n (drop i xs) ≡ natural (10 * n + (get_or xs i 0 - 48)) (drop (i + 1) xs)
-natural_more n xs i h = rw (drop_more xs i 0 h) refl
+-- one digit more
+pub natural_push : (n : ℕ) (cs : List ℕ) (c : ℕ) → natural n (cs ++ c ∷ []) ≡ 10 * natural n cs + (c - 48)
+natural_push n [] c = refl
+natural_push n (b ∷ cs) c = natural_push (10 * n + (b - 48)) cs c
 
 cell_neg : (d : ℕ) → d ≤ 2147483648 → cell_range (neg_ℤ (pos d)) ≡ true
 cell_neg zero h = refl
@@ -32,25 +25,14 @@ minus_read (c ∷ cs) m (Some z) h e f k =
     let d : m ≡ natural 0 cs = omega arith in
     rw e (cell_neg (natural 0 cs) (omega arith), k.1 ∙ ap (λ n. neg_ℤ (pos n)) d)
 
-only_at_yes : (c : ℕ) (cs : List ℕ) → true ≡ digit c → only_digits (c ∷ cs) ≡ only_digits cs
-only_at_yes c cs e = rw (← e, only_digits) refl
+only_each : (cs : List ℕ) → list_all digit cs ≡ only_digits cs
+only_each [] = refl
+only_each (c ∷ cs) = elim (digit c) as (λ b. (b && list_all digit cs) ≡ elim b [ true ↦ only_digits cs | false ↦ false ]) [ true ↦ only_each cs | false ↦ refl ]
 
-only_at_no : (c : ℕ) (cs : List ℕ) → false ≡ digit c → only_digits (c ∷ cs) ≡ false
-only_at_no c cs e = rw (← e, only_digits) refl
-
-module _ (xs : List ℕ) (i : ℕ) where
-  pub only_more : i < length xs → true ≡ digit (get_or xs i 0) → only_digits (drop i xs) ≡ only_digits (drop (i + 1) xs)
-  only_more h e = rw (drop_more xs i 0 h) (only_at_yes (get_or xs i 0) (drop (i + 1) xs) e)
-
-  pub only_no : i < length xs → false ≡ digit (get_or xs i 0) → only_digits (drop i xs) ≡ false
-  only_no h e = rw (drop_more xs i 0 h) (only_at_no (get_or xs i 0) (drop (i + 1) xs) e)
-
-  pub only_all : length xs ≤ i → only_digits (drop i xs) ≡ true
-  only_all h = rw (drop_all i xs h) refl
-
-pub digits_some : (xs : List ℕ) → (length xs ≡ 0 → ⊥) → are_all_digits xs ≡ only_digits xs
-digits_some [] h = absurd (h refl)
-digits_some (c ∷ cs) h = refl
+-- digits one by one, where there is one
+pub digits_each : (cs : List ℕ) → false ≡ (length cs == 0) → list_all digit cs ≡ are_all_digits cs
+digits_each [] h = cc
+digits_each (c ∷ cs) h = only_each (c ∷ cs)
 
 -- after a minus
 pub minus_numeral : (xs : List ℕ) → 0 < length xs → get_or xs 0 0 ≡ 45 → is_numeral_text xs ≡ are_all_digits (drop 1 xs)

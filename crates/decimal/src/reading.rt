@@ -19,25 +19,14 @@ const LARGEST: u64 = 2147483649;
 fn is_digit(byte: u8) -> bool
     ensures { result ≡ digit byte }
 {
-    match byte {
-        b'0'..=b'9' => true,
-        _ => false,
-    }
+    byte.is_ascii_digit()
 }
 
 // At least one digit, and nothing else?
 fn are_digits(text: &[u8]) -> bool
     ensures { result ≡ are_all_digits text.now }
 {
-    if text.len() == 0 {
-        return false;
-    }
-    for byte in text {
-        if !is_digit(*byte) {
-            return false;
-        }
-    }
-    true
+    !text.is_empty() && text.iter().all(|byte| is_digit(*byte))
 }
 
 // Digits, after a minus or after nothing?
@@ -54,22 +43,18 @@ pub fn is_numeral(text: &[u8]) -> bool
 fn magnitude(digits: &[u8]) -> u64
     ensures { result ≡ capped (natural 0 digits.now) }
 {
-    let mut n: u64 = 0;
-    for byte in digits {
-        n = (n * 10 + u64::from(byte.saturating_sub(b'0'))).min(LARGEST);
-    }
-    n
+    digits.iter().fold(0, |n: u64, byte| {
+        let digit = u64::from(byte.saturating_sub(b'0'));
+        n.saturating_mul(10).saturating_add(digit).min(LARGEST)
+    })
 }
 
 // -m, if it has 32 signed bits.
 fn negative(m: u64) -> Option<i32>
     ensures { MatchOption result (2147483648 < m) (λ z. (m ≤ 2147483648) × (z ≡ neg_ℤ (pos m))) }
 {
-    if m <= 2147483648 {
-        Some((-(m as i64)) as i32)
-    } else {
-        None
-    }
+    let m = i64::try_from(m).ok()?;
+    i32::try_from(-m).ok()
 }
 
 // The number that a text writes, if it has 32 signed bits.
@@ -78,7 +63,7 @@ pub fn cell_number(text: &[u8]) -> Option<i32>
 {
     match text {
         [b'-', digits @ ..] => negative(magnitude(digits)),
-        _ => i32::try_from(magnitude(text) as i64).ok(),
+        _ => i32::try_from(magnitude(text)).ok(),
     }
 }
 

@@ -1,6 +1,5 @@
 -- The instruction set: one row an opcode (docs/MACHINE.md).
-use Rattle.std.specs.Prelude.{ℕ, zero, suc, true, false, List, [], ◌∷◌, map, ℤ, pos, negsuc, Some, None, codes, Option}
-use Rattle.std.specs.Borrow.{Bor}
+use Rattle.std.specs.Prelude.{ℕ, zero, suc, List, [], ◌∷◌, map, ℤ, pos, negsuc, Some, None, codes, Option, position, slice_get}
 use Rattle.program.specs.Names.{same}
 use Rattle.isa.specs.declared.opcode.Opcode.{Opcode}
 use Rattle.isa.specs.declared.opcode.Opcode.TheVariants.{Push, Add, Sub, Mul, Div, Mod, Neg, And, Or, Not, Eq, Ne, Lt, Gt, Le, Ge, Dup, Pop, Swap, Jump, Bf, Bt, Nop, Read, Bprint, Cprint, Iprint, Sprint, Prnln, Load, Store, Loadref, Storeref, Deref, Call, Loadfp, Loadsp, Storefp, Rmem, Fmem, Ret, Halt, Loadpc, Storepc, Storesp, Loadhp, Storehp, Loadhl, Storehl}
@@ -94,9 +93,7 @@ order = Push ∷ Add ∷ Sub ∷ Mul ∷ Div ∷ Mod ∷ Neg ∷ And ∷ Or ∷ 
 
 -- the element at a place counted from 0
 abbrev pub nth : {X : Type 0} → List X → ℕ → Option X
-nth [] n = None
-nth (x ∷ xs) zero = Some x
-nth (x ∷ xs) (suc n) = nth xs n
+nth xs n = slice_get xs n
 
 -- the element at a place counted from 1
 abbrev pub picked : {X : Type 0} → List X → ℤ → Option X
@@ -111,15 +108,15 @@ decoded z = picked order z
 abbrev pub mnemonics : List (List ℕ)
 mnemonics = map mnemonic order
 
--- the place of a word in a list of names, counted from k, or 0
-abbrev pub placed : ℕ → List ℕ → List (List ℕ) → ℕ
-placed k w [] = 0
-placed k w (v ∷ vs) = elim (same w v) [ true ↦ k | false ↦ placed (suc k) w vs ]
+-- the place of a word among the mnemonics, counted from 0
+abbrev pub mnemonic_place : List ℕ → Option ℕ
+mnemonic_place w = position (same w) mnemonics
+
+-- the opcode at a place, where there is a place
+abbrev pub opcode_there : Option ℕ → Option Opcode
+opcode_there None = None
+opcode_there (Some n) = nth order n
 
 -- the opcode whose mnemonic is a word
 abbrev pub named : List ℕ → Option Opcode
-named w = decoded (pos (placed 1 w mnemonics))
-
--- what references point to
-abbrev pub texts : List (Bor (List ℕ)) → List (List ℕ)
-texts rs = map (λ r. r.now) rs
+named w = opcode_there (mnemonic_place w)

@@ -6,5 +6,5 @@ mod opcode;
 mod table;
 
 pub use instruction::{Instruction, instruction_at};
-pub use opcode::{Opcode, Operand};
+pub use opcode::{NoOpcode, Opcode, Operand};
 pub use table::{code_of, decode, length_of, opcode_named, operand_of};

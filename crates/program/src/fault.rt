@@ -15,60 +15,60 @@ pub enum Place {
     Counter(i32),
 }
 
-// Why two texts do not assemble.
+// Why two texts do not assemble. Each cause has the number that docs/REFUSALS.md lists for it, here and below.
 #[derive(Clone, Copy, PartialEq, Eq)]
 pub enum AssemblyCause {
-    MemorySize,
-    TextLength,
-    LineBytes,
-    NoForm,
-    NumberRange,
-    LateUnit,
-    WrongSection,
-    GivenTwice,
-    ListFull,
-    ProgramSize,
-    NoLabel,
+    MemorySize = 1,
+    TextLength = 2,
+    LineBytes = 3,
+    NoForm = 4,
+    NumberRange = 5,
+    LateUnit = 6,
+    WrongSection = 7,
+    GivenTwice = 8,
+    ListFull = 9,
+    ProgramSize = 10,
+    NoLabel = 11,
 }
 
 // Why a program does not pass the check.
 #[derive(Clone, Copy, PartialEq, Eq)]
 pub enum CheckCause {
-    TableSize,
-    MemoryLength,
-    NoDivision,
-    BadEntry,
-    NoInstruction,
-    NoRule,
-    ShallowDepth,
-    OutsideFrame,
-    TooDeep,
-    DifferentWays,
+    TableSize = 12,
+    MemoryLength = 21,
+    NoDivision = 13,
+    BadEntry = 14,
+    NoInstruction = 15,
+    NoRule = 16,
+    ShallowDepth = 17,
+    OutsideFrame = 18,
+    TooDeep = 19,
+    DifferentWays = 20,
 }
 
 // Why a machine does not run on.
 #[derive(Clone, Copy, PartialEq, Eq)]
 pub enum MachineCause {
-    MemoryLength,
-    NoInstruction,
-    NegativeCount,
-    StackUnderflow,
-    OutsideStack,
-    StackPointer,
-    StackMeetsHeap,
-    NullReference,
-    ReferenceRange,
-    DivisorZero,
-    Overflow,
-    NoCharacter,
-    HeapLimit,
+    MemoryLength = 21,
+    NoInstruction = 22,
+    NegativeCount = 23,
+    StackUnderflow = 24,
+    OutsideStack = 25,
+    StackPointer = 26,
+    StackMeetsHeap = 27,
+    NullReference = 28,
+    ReferenceRange = 29,
+    DivisorZero = 30,
+    Overflow = 31,
+    NoCharacter = 32,
+    HeapLimit = 33,
 }
 
 // Why a port takes no more.
 #[derive(Clone, Copy, PartialEq, Eq)]
 pub enum PortCause {
-    NoOpening,
-    NoSpace,
+    NoOpening = 34,
+    NoSpace = 35,
 }
 
 // A refusal or a fault: the layer that speaks, its cause, and its place.

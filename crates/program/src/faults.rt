@@ -4,23 +4,12 @@ ghost use Rattle.std.specs.Prelude.{◌≡◌};
 
 use crate::fault::{AssemblyCause, CheckCause, Fault, MachineCause, Place, PortCause};
 
+// Stays: a `number` for each of the four enums of causes, since a trait's body could not cast them all.
 impl AssemblyCause {
     pub fn number(self) -> u32
         ensures { result ≡ assembly_number self }
     {
-        match self {
-            AssemblyCause::MemorySize => 1,
-            AssemblyCause::TextLength => 2,
-            AssemblyCause::LineBytes => 3,
-            AssemblyCause::NoForm => 4,
-            AssemblyCause::NumberRange => 5,
-            AssemblyCause::LateUnit => 6,
-            AssemblyCause::WrongSection => 7,
-            AssemblyCause::GivenTwice => 8,
-            AssemblyCause::ListFull => 9,
-            AssemblyCause::ProgramSize => 10,
-            AssemblyCause::NoLabel => 11,
-        }
+        self as u32
     }
 }
 
@@ -28,18 +17,7 @@ impl CheckCause {
     pub fn number(self) -> u32
         ensures { result ≡ check_number self }
     {
-        match self {
-            CheckCause::TableSize => 12,
-            CheckCause::MemoryLength => 21,
-            CheckCause::NoDivision => 13,
-            CheckCause::BadEntry => 14,
-            CheckCause::NoInstruction => 15,
-            CheckCause::NoRule => 16,
-            CheckCause::ShallowDepth => 17,
-            CheckCause::OutsideFrame => 18,
-            CheckCause::TooDeep => 19,
-            CheckCause::DifferentWays => 20,
-        }
+        self as u32
     }
 }
 
@@ -47,21 +25,7 @@ impl MachineCause {
     pub fn number(self) -> u32
         ensures { result ≡ machine_number self }
     {
-        match self {
-            MachineCause::MemoryLength => 21,
-            MachineCause::NoInstruction => 22,
-            MachineCause::NegativeCount => 23,
-            MachineCause::StackUnderflow => 24,
-            MachineCause::OutsideStack => 25,
-            MachineCause::StackPointer => 26,
-            MachineCause::StackMeetsHeap => 27,
-            MachineCause::NullReference => 28,
-            MachineCause::ReferenceRange => 29,
-            MachineCause::DivisorZero => 30,
-            MachineCause::Overflow => 31,
-            MachineCause::NoCharacter => 32,
-            MachineCause::HeapLimit => 33,
-        }
+        self as u32
     }
 }
 
@@ -69,10 +33,7 @@ impl PortCause {
     pub fn number(self) -> u32
         ensures { result ≡ port_number self }
     {
-        match self {
-            PortCause::NoOpening => 34,
-            PortCause::NoSpace => 35,
-        }
+        self as u32
     }
 }
 

@@ -11,10 +11,7 @@ use crate::unit::Unit;
 pub fn small_letter(byte: u8) -> u8
     ensures { result ≡ small byte }
 {
-    match byte {
-        b'A'..=b'Z' => byte + 32,
-        _ => byte,
-    }
+    byte.to_ascii_lowercase()
 }
 
 // Is the word, in small letters, this name?
@@ -24,12 +21,9 @@ pub fn is_word(word: &[u8], name: &[u8]) -> bool
     if word.len() != name.len() {
         return false;
     }
-    for (i, byte) in word.iter().enumerate() {
-        if small_letter(*byte) != name[i] {
-            return false;
-        }
-    }
-    true
+    word.iter()
+        .zip(name)
+        .all(|(letter, byte)| small_letter(*letter) == *byte)
 }
 
 impl Name {
@@ -51,9 +45,8 @@ impl Name {
             return None;
         }
         let mut bytes = [0; 31];
-        for (i, byte) in word.iter().enumerate() {
-            bytes[i] = small_letter(*byte);
-        }
+        bytes[..word.len()].copy_from_slice(word);
+        bytes.make_ascii_lowercase();
         Some(Name {
             bytes,
             len: word.len(),
@@ -64,13 +57,13 @@ impl Name {
     pub fn is(&self, word: &[u8]) -> bool
         ensures { result ≡ same (smalls word.now) (name_of self.now) }
     {
-        is_word(word, &self.bytes[0..self.len])
+        is_word(word, self.text())
     }
 
     pub fn text(&self) -> &[u8]
         ensures { result.now ≡ name_of self.now }
     {
-        &self.bytes[0..self.len]
+        &self.bytes[..self.len]
     }
 }
 

@@ -17,7 +17,7 @@ impl Assembled {
             labels,
             units,
         } = counts;
-        if cells < 16 || cells > 65536 || labels > 512 || units > 64 {
+        if !(16..=65536).contains(&cells) || labels > 512 || units > 64 {
             return None;
         }
         if code > cells || data > cells - code || heap > cells - code - data {

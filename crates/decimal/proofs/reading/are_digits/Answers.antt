@@ -1,18 +1,11 @@
-use Rattle.std.proofs.Common.{sym, ◌∙◌, arith}
-use Rattle.decimal.proofs.Figures.{only_more, only_no, only_all, digits_some}
+use Rattle.std.proofs.Common.{rules, ◌∙◌}
+use Rattle.std.proofs.lemmas.Iterator.{YieldsList-from_slice}
+use Rattle.std.proofs.lemmas.Iterator.Search.{all_from_yields_List}
+use Rattle.decimal.specs.Numbers.{digit}
+use Rattle.decimal.proofs.Figures.{digits_each}
 use Rattle.decimal.proofs.reading.are_digits.Goals as goal
 
-pub returns-then-not-is_digit : goal.returns-then-not-is_digit
-returns-then-not-is_digit c =
-    let xs = c.args.text.now in
-    sym (digits_some xs c.if-text-eq0.false ∙ sym c.loop-byte.invariant ∙ only_no xs c.loop-byte.byte-index (omega arith) c.if-not-is_digit.ensures)
-
-pub loop-byte-preserved : goal.loop-byte-preserved
-loop-byte-preserved c =
-    let xs = c.args.text.now in
-    sym (only_more xs c.loop-byte.byte-index (omega arith) c.if-not-is_digit.ensures) ∙ c.loop-byte.invariant
-
-pub returns : goal.returns
-returns c =
-    let xs = c.args.text.now in
-    sym (digits_some xs c.if-text-eq0.false ∙ sym c.loop-byte.invariant ∙ only_all xs c.loop-byte.byte-index (omega arith))
+pub returns-then-not-is_empty : goal.returns-then-not-is_empty
+returns-then-not-is_empty c =
+    all_from_yields_List digit c.all.new.self _ c.all.result c.all.ensures.ran (YieldsList-from_slice c.args.text.now cc) (λ x b q k. search rules)
+    ∙ digits_each c.args.text.now c.if-not-is_empty.ensures

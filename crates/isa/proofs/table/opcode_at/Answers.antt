@@ -1,7 +1,7 @@
-use Rattle.std.proofs.Common.{arith}
+use Rattle.std.proofs.Common.{◌∙◌}
 use Rattle.isa.specs.Table.{order}
-use Rattle.isa.proofs.Picking.{picked_high}
+use Rattle.isa.proofs.Decoding.{copied_at}
 use Rattle.isa.proofs.table.opcode_at.Goals as goal
 
-pub returns-then-place-gt49 : goal.returns-then-place-gt49
-returns-then-place-gt49 c = picked_high order c.args.place (omega arith)
+pub returns : goal.returns
+returns c = c.copied.ensures ∙ copied_at order c.args.place c.get.result c.get.ensures.lookup

@@ -1,13 +1,10 @@
-use Rattle.std.proofs.Common.{◌+◌, sym, ◌∙◌}
-use Rattle.program.specs.Names.{smalls}
-use Rattle.isa.proofs.Placing.{placed_here, placed_on, placed_none}
+use Rattle.std.proofs.Common.{rules}
+use Rattle.std.proofs.lemmas.Iterator.{YieldsList-from_slice}
+use Rattle.std.proofs.lemmas.Iterator.Search.{position_from_yields_List}
+use Rattle.program.specs.Names.{same, smalls}
 use Rattle.isa.proofs.table.place_in.Goals as goal
 
-pub returns-then-is_word : goal.returns-then-is_word
-returns-then-is_word c = sym (placed_here (smalls c.args.word.now) c.args.names.now c.loop-i.i _ c.loop-i-test.true c.if-is_word.ensures) ∙ c.loop-i.invariant
-
-pub loop-i-preserved : goal.loop-i-preserved
-loop-i-preserved c = sym (placed_on (smalls c.args.word.now) c.args.names.now c.loop-i.i _ c.loop-i-test.true c.if-is_word.ensures) ∙ c.loop-i.invariant
-
 pub returns : goal.returns
-returns c = sym (placed_none (c.loop-i.i + 1) (smalls c.args.word.now) c.args.names.now c.loop-i.i c.loop-i-test.false) ∙ c.loop-i.invariant
+returns c =
+    let names = YieldsList-from_slice {s = c.iter.result} c.args.names.now cc in
+    position_from_yields_List (λ m. same (smalls c.args.word.now) m.now) c.position.new.self _ c.position.result c.position.ensures.ran names (λ x b q k. search rules)
