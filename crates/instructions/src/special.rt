@@ -16,11 +16,7 @@ pub(crate) fn store_pc(r: &mut Registers, memory: &[i32]) -> Result<Effect, Mach
     ensures sound { Sound r.new (length memory.now) }
     ensures held { Held result r.new memory.now memory.now }
 {
-    if r.sp + 1 > memory.len() {
-        return Err(MachineCause::StackUnderflow);
-    }
-    r.pc = memory[r.sp];
-    r.sp += 1;
+    r.pc = r.take(memory)?;
     Ok(Effect::Done)
 }
 
@@ -30,11 +26,7 @@ pub(crate) fn store_fp(r: &mut Registers, memory: &[i32]) -> Result<Effect, Mach
     ensures sound { Sound r.new (length memory.now) }
     ensures held { Held result r.new memory.now memory.now }
 {
-    if r.sp + 1 > memory.len() {
-        return Err(MachineCause::StackUnderflow);
-    }
-    r.fp = memory[r.sp];
-    r.sp += 1;
+    r.fp = r.take(memory)?;
     Ok(Effect::Done)
 }
 
@@ -44,11 +36,7 @@ pub(crate) fn store_hp(r: &mut Registers, memory: &[i32]) -> Result<Effect, Mach
     ensures sound { Sound r.new (length memory.now) }
     ensures held { Held result r.new memory.now memory.now }
 {
-    if r.sp + 1 > memory.len() {
-        return Err(MachineCause::StackUnderflow);
-    }
-    r.hp = memory[r.sp];
-    r.sp += 1;
+    r.hp = r.take(memory)?;
     Ok(Effect::Done)
 }
 
