@@ -15,11 +15,7 @@ pub(crate) fn show_flag(r: &mut Registers, memory: &[i32]) -> Result<Effect, Mac
     ensures sound { Sound r.new (length memory.now) }
     ensures held { Held result r.new memory.now memory.now }
 {
-    if r.sp + 1 > memory.len() {
-        return Err(MachineCause::StackUnderflow);
-    }
-    let flag = memory[r.sp] != 0;
-    r.sp += 1;
+    let flag = r.take(memory)? != 0;
     Ok(Effect::Show(Text::Flag(flag)))
 }
 
@@ -29,10 +25,7 @@ pub(crate) fn show_letter(r: &mut Registers, memory: &[i32]) -> Result<Effect, M
     ensures sound { Sound r.new (length memory.now) }
     ensures held { Held result r.new memory.now memory.now }
 {
-    if r.sp + 1 > memory.len() {
-        return Err(MachineCause::StackUnderflow);
-    }
-    let byte = letter(memory[r.sp])?;
+    let byte = letter(r.top(memory)?)?;
     r.sp += 1;
     Ok(Effect::Show(Text::Byte(byte)))
 }
@@ -43,11 +36,7 @@ pub(crate) fn show_number(r: &mut Registers, memory: &[i32]) -> Result<Effect, M
     ensures sound { Sound r.new (length memory.now) }
     ensures held { Held result r.new memory.now memory.now }
 {
-    if r.sp + 1 > memory.len() {
-        return Err(MachineCause::StackUnderflow);
-    }
-    let number = memory[r.sp];
-    r.sp += 1;
+    let number = r.take(memory)?;
     Ok(Effect::Show(Text::Number(number)))
 }
 
@@ -62,10 +51,7 @@ pub(crate) fn show_string(
     ensures sound { Sound r.new (length memory.now) }
     ensures held { Held result r.new memory.now memory.now }
 {
-    if r.sp + 1 > memory.len() {
-        return Err(MachineCause::StackUnderflow);
-    }
-    let reference = memory[r.sp];
+    let reference = r.top(memory)?;
     let address = refer(layout, r.limit, reference, 0)?;
     if memory[address] == 0 {
         r.sp += 1;

@@ -46,12 +46,9 @@ pub(crate) fn store_sp(r: &mut Registers, memory: &[i32]) -> Result<Effect, Mach
     ensures sound { Sound r.new (length memory.now) }
     ensures held { Held result r.new memory.now memory.now }
 {
-    if r.sp + 1 > memory.len() {
-        return Err(MachineCause::StackUnderflow);
-    }
     r.sp = place(
         MachineCause::StackPointer,
-        memory[r.sp],
+        r.top(memory)?,
         0,
         r.limit,
         memory.len() + 1,
@@ -69,12 +66,9 @@ pub(crate) fn store_hl(
     ensures sound { Sound r.new (length memory.now) }
     ensures held { Held result r.new memory.now memory.now }
 {
-    if r.sp + 1 > memory.len() {
-        return Err(MachineCause::StackUnderflow);
-    }
     r.limit = place(
         MachineCause::HeapLimit,
-        memory[r.sp],
+        r.top(memory)?,
         1,
         layout.floor,
         r.sp + 2,

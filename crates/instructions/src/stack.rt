@@ -8,6 +8,7 @@ ghost use Rattle.instructions.specs.Tests.{uses, room};
 ghost use Rattle.instructions.specs.Stack.{joins, turns, pushes, pops, swaps, reserves, releases};
 
 use crate::effect::Effect;
+use crate::place::cells;
 use crate::registers::Registers;
 use arithmetic::{Binary, Unary};
 use program::MachineCause;
@@ -22,10 +23,8 @@ pub(crate) fn join(
     ensures sound { Sound r.new (length memory.old) }
     ensures held { Held result r.new memory.old memory.new }
 {
-    if r.sp + 2 > memory.len() {
-        return Err(MachineCause::StackUnderflow);
-    }
-    let value = arithmetic::compute(op, memory[r.sp + 1], memory[r.sp])?;
+    let (second, first) = r.pair(memory)?;
+    let value = arithmetic::compute(op, first, second)?;
     memory[r.sp + 1] = value;
     r.sp += 1;
     Ok(Effect::Done)
@@ -36,10 +35,8 @@ pub(crate) fn turn(op: Unary, r: &Registers, memory: &mut [i32]) -> Result<Effec
     ensures after { left result r.now memory.new ≡ turns (unary op) (core r.now memory.old) }
     ensures held { Held result r.now memory.old memory.new }
 {
-    if r.sp + 1 > memory.len() {
-        return Err(MachineCause::StackUnderflow);
-    }
-    memory[r.sp] = arithmetic::turn(op, memory[r.sp])?;
+    let value = r.top(memory)?;
+    memory[r.sp] = arithmetic::turn(op, value)?;
     Ok(Effect::Done)
 }
 
@@ -59,9 +56,7 @@ pub(crate) fn push(x: i32, r: &mut Registers, memory: &mut [i32]) -> Result<Effe
     ensures sound { Sound r.new (length memory.old) }
     ensures held { Held result r.new memory.old memory.new }
 {
-    if r.limit + 1 > r.sp {
-        return Err(MachineCause::StackMeetsHeap);
-    }
+    r.room(1)?;
     put(x, r, memory);
     Ok(Effect::Done)
 }
@@ -72,10 +67,7 @@ pub(crate) fn duplicate(r: &mut Registers, memory: &mut [i32]) -> Result<Effect,
     ensures sound { Sound r.new (length memory.old) }
     ensures held { Held result r.new memory.old memory.new }
 {
-    if r.sp + 1 > memory.len() {
-        return Err(MachineCause::StackUnderflow);
-    }
-    push(memory[r.sp], r, memory)
+    push(r.top(memory)?, r, memory)
 }
 
 pub(crate) fn pop(r: &mut Registers, memory: &[i32]) -> Result<Effect, MachineCause>
@@ -84,10 +76,7 @@ pub(crate) fn pop(r: &mut Registers, memory: &[i32]) -> Result<Effect, MachineCa
     ensures sound { Sound r.new (length memory.now) }
     ensures held { Held result r.new memory.now memory.now }
 {
-    if r.sp + 1 > memory.len() {
-        return Err(MachineCause::StackUnderflow);
-    }
-    r.sp += 1;
+    let _ = r.take(memory)?;
     Ok(Effect::Done)
 }
 
@@ -96,13 +85,8 @@ pub(crate) fn swap(r: &Registers, memory: &mut [i32]) -> Result<Effect, MachineC
     ensures after { left result r.now memory.new ≡ swaps (core r.now memory.old) }
     ensures held { Held result r.now memory.old memory.new }
 {
-    if r.sp + 2 > memory.len() {
-        return Err(MachineCause::StackUnderflow);
-    }
-    let first = memory[r.sp];
-    let second = memory[r.sp + 1];
-    memory[r.sp + 1] = first;
-    memory[r.sp] = second;
+    r.holds(2, memory)?;
+    memory.swap(r.sp + 1, r.sp);
     Ok(Effect::Done)
 }
 
@@ -112,13 +96,8 @@ pub(crate) fn reserve(count: i32, r: &mut Registers, memory: &[i32]) -> Result<E
     ensures sound { Sound r.new (length memory.now) }
     ensures held { Held result r.new memory.now memory.now }
 {
-    if count < 0 {
-        return Err(MachineCause::NegativeCount);
-    }
-    let count = count as usize;
-    if r.limit + count > r.sp {
-        return Err(MachineCause::StackMeetsHeap);
-    }
+    let count = cells(count)?;
+    r.room(count)?;
     r.sp -= count;
     Ok(Effect::Done)
 }
@@ -129,13 +108,8 @@ pub(crate) fn release(count: i32, r: &mut Registers, memory: &[i32]) -> Result<E
     ensures sound { Sound r.new (length memory.now) }
     ensures held { Held result r.new memory.now memory.now }
 {
-    if count < 0 {
-        return Err(MachineCause::NegativeCount);
-    }
-    let count = count as usize;
-    if r.sp + count > memory.len() {
-        return Err(MachineCause::StackUnderflow);
-    }
+    let count = cells(count)?;
+    r.holds(count, memory)?;
     r.sp += count;
     Ok(Effect::Done)
 }
@@ -146,8 +120,6 @@ pub(crate) fn ask(r: &Registers, memory: &[i32]) -> Result<Effect, MachineCause>
     ensures after { left result r.now memory.now ≡ room 1 takes (core r.now memory.now) }
     ensures held { Held result r.now memory.now memory.now }
 {
-    if r.limit + 1 > r.sp {
-        return Err(MachineCause::StackMeetsHeap);
-    }
+    r.room(1)?;
     Ok(Effect::Take)
 }

@@ -20,7 +20,7 @@ pub(crate) fn load(
     ensures sound { Sound r.new (length memory.old) }
     ensures held { Held result r.new memory.old memory.new }
 {
-    let address = place(MachineCause::OutsideStack, r.fp, offset, r.sp, memory.len())?;
+    let address = r.variable(offset, memory)?;
     push(memory[address], r, memory)
 }
 
@@ -34,11 +34,9 @@ pub(crate) fn store(
     ensures sound { Sound r.new (length memory.old) }
     ensures held { Held result r.new memory.old memory.new }
 {
-    if r.sp + 1 > memory.len() {
-        return Err(MachineCause::StackUnderflow);
-    }
-    let address = place(MachineCause::OutsideStack, r.fp, offset, r.sp, memory.len())?;
-    memory[address] = memory[r.sp];
+    let value = r.top(memory)?;
+    let address = r.variable(offset, memory)?;
+    memory[address] = value;
     r.sp += 1;
     Ok(Effect::Done)
 }
@@ -53,10 +51,7 @@ pub(crate) fn load_reference(
     ensures after { left result r.now memory.new ≡ fetches layout offset (core r.now memory.old) }
     ensures held { Held result r.now memory.old memory.new }
 {
-    if r.sp + 1 > memory.len() {
-        return Err(MachineCause::StackUnderflow);
-    }
-    let address = refer(layout, r.limit, memory[r.sp], offset)?;
+    let address = refer(layout, r.limit, r.top(memory)?, offset)?;
     memory[r.sp] = memory[address];
     Ok(Effect::Done)
 }
@@ -72,11 +67,9 @@ pub(crate) fn store_reference(
     ensures sound { Sound r.new (length memory.old) }
     ensures held { Held result r.new memory.old memory.new }
 {
-    if r.sp + 2 > memory.len() {
-        return Err(MachineCause::StackUnderflow);
-    }
-    let address = refer(layout, r.limit, memory[r.sp + 1], offset)?;
-    memory[address] = memory[r.sp];
+    let (value, reference) = r.pair(memory)?;
+    let address = refer(layout, r.limit, reference, offset)?;
+    memory[address] = value;
     r.sp += 2;
     Ok(Effect::Done)
 }
