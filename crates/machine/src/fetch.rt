@@ -17,12 +17,9 @@ fn argued(code: &[i32], at: usize, op: Opcode) -> Option<Fetched>
     requires { (at < length code.now) × (length code.now ≤ 65536) }
     ensures { result ≡ longer code.now at op }
 {
-    if at + 1 >= code.len() {
-        return None;
-    }
     Some(Fetched {
         op,
-        argument: code[at + 1],
+        argument: *code.get(at + 1)?,
         next: at as i32 + 2,
     })
 }
@@ -32,10 +29,7 @@ fn fetch_at(code: &[i32], at: usize) -> Option<Fetched>
     requires { length code.now ≤ 65536 }
     ensures { result ≡ followed at (instruction code.now at) }
 {
-    if at >= code.len() {
-        return None;
-    }
-    let op = decode(code[at])?;
+    let op = decode(*code.get(at)?)?;
     if length_of(op) == 1 {
         Some(Fetched {
             op,
@@ -47,20 +41,10 @@ fn fetch_at(code: &[i32], at: usize) -> Option<Fetched>
     }
 }
 
-fn fetch_in(code: &[i32], pc: i32) -> Option<Fetched>
-    requires { length code.now ≤ 65536 }
-    ensures { result ≡ fetched code.now pc }
-{
-    if pc < 0 {
-        return None;
-    }
-    fetch_at(code, pc as usize)
-}
-
 // The instruction at pc, if it stands whole within the first cells of memory, which are code.
 pub(crate) fn fetch(code: usize, pc: i32, memory: &[i32]) -> Option<Fetched>
     requires { (code ≤ length memory.now) × (length memory.now ≤ 65536) }
     ensures { result ≡ fetched (take code memory.now) pc }
 {
-    fetch_in(&memory[0..code], pc)
+    fetch_at(&memory[..code], usize::try_from(pc).ok()?)
 }

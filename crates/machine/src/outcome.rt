@@ -1,8 +1,11 @@
+ghost use Rattle.std.specs.Prelude.{◌≡◌, ◌≤◌};
+ghost use Rattle.machine.specs.Steps.{last};
+
 use program::Fault;
 
 // Why a run ended: its allowance was spent, the program halted, READ found nothing waiting, a print found too
 // little space, or an instruction was at fault.
-#[derive(Clone, Copy)]
+#[derive(Clone, Copy, PartialEq, Eq)]
 pub enum Outcome {
     Spent,
     Halted,
@@ -12,16 +15,18 @@ pub enum Outcome {
 }
 
 // The steps that a run did, and why it ended.
-#[derive(Clone, Copy)]
+#[derive(Clone, Copy, PartialEq, Eq)]
 pub struct Report {
     pub steps: u32,
     pub outcome: Outcome,
 }
 
-// What one step came to: it is done, it was HALT, or it was none.
-#[derive(Clone, Copy)]
-pub enum Step {
-    Moved,
-    Ended,
-    Stopped(Outcome),
+impl Outcome {
+    // How many steps the end of a run was: HALT is one, and any other is none.
+    pub(crate) fn last_step(self) -> u32
+        ensures is { result ≡ last self }
+        ensures most { result ≤ 1 }
+    {
+        u32::from(self == Outcome::Halted)
+    }
 }
