@@ -1,6 +1,6 @@
 ghost use Rattle.std.specs.Prelude.{◌≡◌, ◌<◌, ◌≤◌, length, take};
 ghost use Rattle.isa.specs.Code.{instruction};
-ghost use Rattle.machine.specs.Fetch.{fetched, followed, longer};
+ghost use Rattle.machine.specs.Fetch.{fetched, followed};
 
 use isa::{Opcode, decode, length_of};
 
@@ -12,18 +12,6 @@ pub struct Fetched {
     pub next: i32,
 }
 
-// An instruction with its argument in the next cell, if that is code too.
-fn argued(code: &[i32], at: usize, op: Opcode) -> Option<Fetched>
-    requires { (at < length code.now) × (length code.now ≤ 65536) }
-    ensures { result ≡ longer code.now at op }
-{
-    Some(Fetched {
-        op,
-        argument: *code.get(at + 1)?,
-        next: at as i32 + 2,
-    })
-}
-
 // The two lengths go their own ways, so that the next pc does not wait for what the opcode takes.
 fn fetch_at(code: &[i32], at: usize) -> Option<Fetched>
     requires { length code.now ≤ 65536 }
@@ -31,14 +19,17 @@ fn fetch_at(code: &[i32], at: usize) -> Option<Fetched>
 {
     let op = decode(*code.get(at)?)?;
     if length_of(op) == 1 {
-        Some(Fetched {
+        return Some(Fetched {
             op,
             argument: 0,
             next: at as i32 + 1,
-        })
-    } else {
-        argued(code, at, op)
+        });
     }
+    Some(Fetched {
+        op,
+        argument: *code.get(at + 1)?,
+        next: at as i32 + 2,
+    })
 }
 
 // The instruction at pc, if it stands whole within the first cells of memory, which are code.

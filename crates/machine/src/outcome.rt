@@ -1,6 +1,8 @@
 ghost use Rattle.std.specs.Prelude.{◌≡◌, ◌≤◌};
 ghost use Rattle.machine.specs.Steps.{last};
+ghost use Rattle.machine.specs.Turns.{marked};
 
+use crate::state::Status;
 use program::Fault;
 
 // Why a run ended: its allowance was spent, the program halted, READ found nothing waiting, a print found too
@@ -28,5 +30,18 @@ impl Outcome {
         ensures most { result ≤ 1 }
     {
         u32::from(self == Outcome::Halted)
+    }
+}
+
+// A run that halted or was at fault is not gone on with.
+impl From<Outcome> for Status {
+    ghost from_gives = { λ outcome status. status ≡ marked outcome };
+
+    fn from(outcome: Outcome) -> Status {
+        match outcome {
+            Outcome::Halted => Status::Halted,
+            Outcome::Fault(fault) => Status::Faulted(fault),
+            _ => Status::Live,
+        }
     }
 }

@@ -48,6 +48,7 @@ fn settle<P: Port>(
 
 // One step: the instruction at pc, and what the port gives or takes for it. An outcome ends the run; it is of a step
 // that was none, but for that of HALT.
+#[tactic(auto, using(crate::proofs::Stepping::answered_held), unfolding(crate::specs::Step::step))]
 pub(crate) fn step<P: Port>(
     layout: Layout,
     r: &mut Registers,
