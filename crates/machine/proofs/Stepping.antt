@@ -15,14 +15,6 @@ use Rattle.machine.specs.Fetch.{fetched}
 use Rattle.machine.specs.Console.{Console}
 use Rattle.machine.specs.Step.{Stepped, step, does, performed, answered}
 
-pub performed_by : (lay : Layout) (c : Core) (i : Option Fetched) (n : Next) → i ≡ fetched (take lay.code c.mem) c.reg.pc → n ≡ does lay i c → n ≡ performed lay c
-unfolding performed
-performed_by lay c i n e h = h ∙ ap (λ f. does lay f c) e
-
-pub step_by : (lay : Layout) (c : Core) (w : Console) (n : Next) → n ≡ performed lay c → answered n c w ≡ step lay c w
-unfolding step
-step_by lay c w n h = ap (λ n. answered n c w) h
-
 -- what has not written leaves memory as it was
 pub answered_held : (e : Effect) (to r : Registers) (m m' : List ℤ) (w : Console) → Unwritten e m m'
     → answered (asks e (core to m')) (core r m') w ≡ answered (asks e (core to m')) (core r m) w
