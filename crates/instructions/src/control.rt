@@ -1,6 +1,6 @@
 ghost use Rattle.std.specs.Prelude.{◌≡◌, ℕ, ◌+◌, ◌-◌, ◌<◌, ◌≤◌, length, ℤ, pos, ◌+ℤ◌};
 ghost use Rattle.instructions.specs.Core.{Sound, core, top};
-ghost use Rattle.instructions.specs.Effects.{left, Held};
+ghost use Rattle.instructions.specs.Effects.{Does};
 ghost use Rattle.instructions.specs.Stack.{jumps, branches, calls, returns};
 
 use crate::effect::Effect;
@@ -10,9 +10,7 @@ use program::MachineCause;
 
 pub(crate) fn jump(to: i32, r: &mut Registers, memory: &[i32]) -> Result<Effect, MachineCause>
     requires { Sound r.old (length memory.now) }
-    ensures after { left result r.new memory.now ≡ jumps to (core r.old memory.now) }
-    ensures sound { Sound r.new (length memory.now) }
-    ensures held { Held result r.new memory.now memory.now }
+    ensures { Does (jumps to) r.old memory.now result r.new memory.now }
 {
     r.pc = to;
     Ok(Effect::Done)
@@ -26,9 +24,7 @@ pub(crate) fn branch(
     memory: &[i32],
 ) -> Result<Effect, MachineCause>
     requires { Sound r.old (length memory.now) }
-    ensures after { left result r.new memory.now ≡ branches when to (core r.old memory.now) }
-    ensures sound { Sound r.new (length memory.now) }
-    ensures held { Held result r.new memory.now memory.now }
+    ensures { Does (branches when to) r.old memory.now result r.new memory.now }
 {
     if (r.take(memory)? != 0) == when {
         r.pc = to;
@@ -38,9 +34,7 @@ pub(crate) fn branch(
 
 pub(crate) fn call(r: &mut Registers, memory: &mut [i32]) -> Result<Effect, MachineCause>
     requires { Sound r.old (length memory.old) }
-    ensures after { left result r.new memory.new ≡ calls (core r.old memory.old) }
-    ensures sound { Sound r.new (length memory.old) }
-    ensures held { Held result r.new memory.old memory.new }
+    ensures { Does calls r.old memory.old result r.new memory.new }
 {
     let to = r.top(memory)?;
     memory[r.sp] = r.pc;
@@ -54,9 +48,7 @@ pub(crate) fn return_from(
     memory: &[i32],
 ) -> Result<Effect, MachineCause>
     requires { Sound r.old (length memory.now) }
-    ensures after { left result r.new memory.now ≡ returns count (core r.old memory.now) }
-    ensures sound { Sound r.new (length memory.now) }
-    ensures held { Held result r.new memory.now memory.now }
+    ensures { Does (returns count) r.old memory.now result r.new memory.now }
 {
     let count = cells(count)? + 1;
     r.holds(count, memory)?;

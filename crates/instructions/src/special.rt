@@ -1,6 +1,6 @@
 ghost use Rattle.std.specs.Prelude.{◌≡◌, ℕ, ◌+◌, ◌-◌, ◌<◌, ◌≤◌, length, ℤ, pos, ◌+ℤ◌};
 ghost use Rattle.instructions.specs.Core.{Sound, core, top};
-ghost use Rattle.instructions.specs.Effects.{left, Held};
+ghost use Rattle.instructions.specs.Effects.{Does};
 ghost use Rattle.instructions.specs.Moves.{at_pc, at_fp, at_hp};
 ghost use Rattle.instructions.specs.Stack.{pops, tops, limits};
 
@@ -12,9 +12,7 @@ use program::MachineCause;
 
 pub(crate) fn store_pc(r: &mut Registers, memory: &[i32]) -> Result<Effect, MachineCause>
     requires { Sound r.old (length memory.now) }
-    ensures after { left result r.new memory.now ≡ pops at_pc (core r.old memory.now) }
-    ensures sound { Sound r.new (length memory.now) }
-    ensures held { Held result r.new memory.now memory.now }
+    ensures { Does (pops at_pc) r.old memory.now result r.new memory.now }
 {
     r.pc = r.take(memory)?;
     Ok(Effect::Done)
@@ -22,9 +20,7 @@ pub(crate) fn store_pc(r: &mut Registers, memory: &[i32]) -> Result<Effect, Mach
 
 pub(crate) fn store_fp(r: &mut Registers, memory: &[i32]) -> Result<Effect, MachineCause>
     requires { Sound r.old (length memory.now) }
-    ensures after { left result r.new memory.now ≡ pops at_fp (core r.old memory.now) }
-    ensures sound { Sound r.new (length memory.now) }
-    ensures held { Held result r.new memory.now memory.now }
+    ensures { Does (pops at_fp) r.old memory.now result r.new memory.now }
 {
     r.fp = r.take(memory)?;
     Ok(Effect::Done)
@@ -32,9 +28,7 @@ pub(crate) fn store_fp(r: &mut Registers, memory: &[i32]) -> Result<Effect, Mach
 
 pub(crate) fn store_hp(r: &mut Registers, memory: &[i32]) -> Result<Effect, MachineCause>
     requires { Sound r.old (length memory.now) }
-    ensures after { left result r.new memory.now ≡ pops at_hp (core r.old memory.now) }
-    ensures sound { Sound r.new (length memory.now) }
-    ensures held { Held result r.new memory.now memory.now }
+    ensures { Does (pops at_hp) r.old memory.now result r.new memory.now }
 {
     r.hp = r.take(memory)?;
     Ok(Effect::Done)
@@ -42,9 +36,7 @@ pub(crate) fn store_hp(r: &mut Registers, memory: &[i32]) -> Result<Effect, Mach
 
 pub(crate) fn store_sp(r: &mut Registers, memory: &[i32]) -> Result<Effect, MachineCause>
     requires { Sound r.old (length memory.now) }
-    ensures after { left result r.new memory.now ≡ tops (core r.old memory.now) }
-    ensures sound { Sound r.new (length memory.now) }
-    ensures held { Held result r.new memory.now memory.now }
+    ensures { Does tops r.old memory.now result r.new memory.now }
 {
     r.sp = place(
         MachineCause::StackPointer,
@@ -62,9 +54,7 @@ pub(crate) fn store_hl(
     memory: &[i32],
 ) -> Result<Effect, MachineCause>
     requires { Sound r.old (length memory.now) }
-    ensures after { left result r.new memory.now ≡ limits layout (core r.old memory.now) }
-    ensures sound { Sound r.new (length memory.now) }
-    ensures held { Held result r.new memory.now memory.now }
+    ensures { Does (limits layout) r.old memory.now result r.new memory.now }
 {
     r.limit = place(
         MachineCause::HeapLimit,
