@@ -1,5 +1,5 @@
-ghost use Rattle.std.specs.Prelude.{◌≡◌, ℕ, ◌+◌, ◌-◌, ◌<◌, ◌≤◌, length, ℤ, pos, ◌+ℤ◌};
-ghost use Rattle.instructions.specs.Core.{Sound, core, top};
+ghost use Rattle.std.specs.Prelude.{length};
+ghost use Rattle.instructions.specs.Core.{Sound};
 ghost use Rattle.instructions.specs.Effects.{Does};
 ghost use Rattle.instructions.specs.Stack.{jumps, branches, calls, returns};
 

@@ -1,4 +1,4 @@
-ghost use Rattle.std.specs.Prelude.{◌≡◌, ℕ, ◌+◌, ◌-◌, ◌<◌, ◌≤◌, List, length, ℤ, pos, ◌+ℤ◌};
+ghost use Rattle.std.specs.Prelude.{◌≡◌, ◌+◌, ◌≤◌, length};
 ghost use Rattle.instructions.specs.Core.{Sound, core, top};
 ghost use Rattle.instructions.specs.Effects.{Does};
 ghost use Rattle.arithmetic.specs.Cells.{binary, unary};

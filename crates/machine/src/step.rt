@@ -1,4 +1,4 @@
-ghost use Rattle.std.specs.Prelude.{◌≡◌, ℕ, ◌≤◌, length};
+ghost use Rattle.std.specs.Prelude.{◌≡◌, ◌≤◌, length};
 ghost use Rattle.instructions.specs.Core.{Sound, core};
 ghost use Rattle.machine.specs.Console.{console};
 ghost use Rattle.instructions.specs.Effects.{asks, Roomy};
@@ -61,7 +61,9 @@ pub(crate) fn step<P: Port>(
     ensures openings { (P.meaning port.old).openings ≤ (P.meaning port.new).openings }
 {
     let mut next = *r;
-    let effect = perform(layout, &mut next, memory)
-        .map_err(|cause| Outcome::Fault(Fault::Machine(cause, Place::Counter(r.pc))))?;
+    let effect = perform(layout, &mut next, memory).map_err(|cause| Outcome::Fault(Fault::Machine(
+        cause,
+        Place::Counter(r.pc),
+    )))?;
     settle(effect, next, r, memory, port)
 }

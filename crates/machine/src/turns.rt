@@ -1,4 +1,4 @@
-ghost use Rattle.std.specs.Prelude.{◌≡◌, ℕ, ◌≤◌, length};
+ghost use Rattle.std.specs.Prelude.{◌≡◌, ◌≤◌, length};
 ghost use Rattle.instructions.specs.Core.{Sound, core};
 ghost use Rattle.machine.specs.Console.{console};
 ghost use Rattle.machine.specs.Run.{ran, runs};
