@@ -1,6 +1,6 @@
 -- One line an instruction: at is its address, k its argument cell, and pc stands past it already.
-use Rattle.std.specs.Prelude.{cond, [], ◌∷◌, ℤ, pos, ◌-ℤ◌}
-use Rattle.arithmetic.specs.Cells.{binary, unary, is_zero}
+use Rattle.std.specs.Prelude.{true, false, [], ◌∷◌, ℤ, pos, ◌-ℤ◌}
+use Rattle.arithmetic.specs.Cells.{binary, unary}
 use Rattle.arithmetic.specs.declared.operation.Binary.TheVariants as B
 use Rattle.arithmetic.specs.declared.operation.Unary.TheVariants as U
 use Rattle.instructions.specs.declared.layout.Layout.{Layout}
@@ -9,7 +9,7 @@ use Rattle.isa.specs.declared.opcode.Opcode.TheVariants.{Push, Add, Sub, Mul, Di
 use Rattle.instructions.specs.Core.{Act, goes, halts, takes, shows, top}
 use Rattle.instructions.specs.Tests.{uses, room}
 use Rattle.instructions.specs.Moves.{at_pc, at_fp, at_hp}
-use Rattle.instructions.specs.Stack.{joins, turns, pushes, pops, swaps, loads, stores, fetches, assigns, jumps, calls, reserves, releases, returns, tops, limits, flags, letters, numbers, strings}
+use Rattle.instructions.specs.Stack.{joins, turns, pushes, pops, swaps, loads, stores, fetches, assigns, jumps, branches, calls, reserves, releases, returns, tops, limits, flags, letters, numbers, strings}
 
 abbrev pub exec : Layout → ℤ → Opcode → ℤ → Act
 exec lay at Push k = pushes (λ _. k)
@@ -32,8 +32,8 @@ exec lay at Dup k = uses 1 (pushes top)
 exec lay at Pop k = pops (λ x c. c)
 exec lay at Swap k = swaps
 exec lay at Jump k = jumps k
-exec lay at Bf k = pops (λ x c. cond (is_zero x) (at_pc k c) c)
-exec lay at Bt k = pops (λ x c. cond (is_zero x) c (at_pc k c))
+exec lay at Bf k = branches false k
+exec lay at Bt k = branches true k
 exec lay at Nop k = goes
 exec lay at Read k = room 1 takes
 exec lay at Bprint k = flags

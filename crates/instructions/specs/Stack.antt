@@ -42,6 +42,11 @@ assigns lay k = uses 2 (λ c. refers lay (under c) k (λ a c. goes (popped 2 (pu
 abbrev pub jumps : ℤ → Act
 jumps to c = goes (at_pc to c)
 
+-- the top goes; to an address where it is true, or where it is false
+abbrev pub branches : Bool → ℤ → Act
+branches true to = pops (λ x c. cond (is_zero x) c (at_pc to c))
+branches false to = pops (λ x c. cond (is_zero x) (at_pc to c) c)
+
 abbrev pub calls : Act
 calls = uses 1 (λ c. goes (at_pc (top c) (put c.reg.sp c.reg.pc c)))
 

@@ -1,4 +1,4 @@
-ghost use Rattle.std.specs.Prelude.{◌≡◌, ℕ, ◌+◌, ◌≤◌, length};
+ghost use Rattle.std.specs.Prelude.{◌≡◌, length};
 ghost use Rattle.instructions.specs.Core.{Sound, core};
 ghost use Rattle.instructions.specs.Effects.{left, Held};
 ghost use Rattle.instructions.specs.Exec.{exec};
@@ -45,8 +45,8 @@ pub fn execute(
         Opcode::Pop => stack::pop(r, memory),
         Opcode::Swap => stack::swap(r, memory),
         Opcode::Jump => control::jump(argument, r, memory),
-        Opcode::Bf => control::branch_false(argument, r, memory),
-        Opcode::Bt => control::branch_true(argument, r, memory),
+        Opcode::Bf => control::branch(false, argument, r, memory),
+        Opcode::Bt => control::branch(true, argument, r, memory),
         Opcode::Nop => Ok(Effect::Done),
         Opcode::Read => stack::ask(r, memory),
         Opcode::Bprint => shows::show_flag(r, memory),

@@ -1,4 +1,4 @@
-ghost use Rattle.std.specs.Prelude.{◌≡◌, ℕ, ◌≤◌, ℤ, ◌+ℤ◌};
+ghost use Rattle.std.specs.Prelude.{◌≡◌, ◌≤◌, pos, ◌+ℤ◌, ◌<ℤ◌, MatchResult};
 ghost use Rattle.instructions.specs.Tests.{placed, referred, lettered};
 
 use crate::layout::Layout;
@@ -15,18 +15,10 @@ pub(crate) fn place(
     requires { high ≤ 65538 }
     ensures { result ≡ placed cause low high (base +ℤ offset) }
 {
-    let Some(address) = base.checked_add(offset) else {
-        return Err(cause);
-    };
-    if address < 0 {
-        return Err(cause);
-    }
-    let address = address as usize;
-    if low <= address && address < high {
-        Ok(address)
-    } else {
-        Err(cause)
-    }
+    base.checked_add(offset)
+        .and_then(|address| usize::try_from(address).ok())
+        .filter(|address| (low..high).contains(address))
+        .ok_or(cause)
 }
 
 // The address that a reference and its offset give.
@@ -55,8 +47,12 @@ pub(crate) fn refer(
 pub(crate) fn letter(cell: i32) -> Result<u8, MachineCause>
     ensures { result ≡ lettered cell }
 {
-    if cell < 0 || cell > 255 {
-        return Err(MachineCause::NoCharacter);
-    }
-    Ok(cell as u8)
+    u8::try_from(cell).map_err(|_| MachineCause::NoCharacter)
+}
+
+// The number of cells that an instruction names.
+pub(crate) fn cells(count: i32) -> Result<usize, MachineCause>
+    ensures { MatchResult result (λ n. count ≡ pos n) (λ e. (count <ℤ pos 0) × (e ≡ MachineCause.NegativeCount)) }
+{
+    usize::try_from(count).map_err(|_| MachineCause::NegativeCount)
 }

@@ -1,6 +1,6 @@
-ghost use Rattle.std.specs.Prelude.{◌≡◌, ℕ, ◌+◌, ◌-◌, ◌<◌, ◌≤◌, length, ℤ, pos, ◌+ℤ◌};
-ghost use Rattle.instructions.specs.Core.{Sound, core, top};
-ghost use Rattle.instructions.specs.Effects.{left, Held};
+ghost use Rattle.std.specs.Prelude.{length};
+ghost use Rattle.instructions.specs.Core.{Sound};
+ghost use Rattle.instructions.specs.Effects.{Does};
 ghost use Rattle.instructions.specs.Stack.{flags, letters, numbers, strings};
 
 use crate::effect::{Effect, Text};
@@ -11,43 +11,26 @@ use program::MachineCause;
 
 pub(crate) fn show_flag(r: &mut Registers, memory: &[i32]) -> Result<Effect, MachineCause>
     requires { Sound r.old (length memory.now) }
-    ensures after { left result r.new memory.now ≡ flags (core r.old memory.now) }
-    ensures sound { Sound r.new (length memory.now) }
-    ensures held { Held result r.new memory.now memory.now }
+    ensures { Does flags r.old memory.now result r.new memory.now }
 {
-    if r.sp + 1 > memory.len() {
-        return Err(MachineCause::StackUnderflow);
-    }
-    let flag = memory[r.sp] != 0;
-    r.sp += 1;
+    let flag = r.take(memory)? != 0;
     Ok(Effect::Show(Text::Flag(flag)))
 }
 
 pub(crate) fn show_letter(r: &mut Registers, memory: &[i32]) -> Result<Effect, MachineCause>
     requires { Sound r.old (length memory.now) }
-    ensures after { left result r.new memory.now ≡ letters (core r.old memory.now) }
-    ensures sound { Sound r.new (length memory.now) }
-    ensures held { Held result r.new memory.now memory.now }
+    ensures { Does letters r.old memory.now result r.new memory.now }
 {
-    if r.sp + 1 > memory.len() {
-        return Err(MachineCause::StackUnderflow);
-    }
-    let byte = letter(memory[r.sp])?;
+    let byte = letter(r.top(memory)?)?;
     r.sp += 1;
     Ok(Effect::Show(Text::Byte(byte)))
 }
 
 pub(crate) fn show_number(r: &mut Registers, memory: &[i32]) -> Result<Effect, MachineCause>
     requires { Sound r.old (length memory.now) }
-    ensures after { left result r.new memory.now ≡ numbers (core r.old memory.now) }
-    ensures sound { Sound r.new (length memory.now) }
-    ensures held { Held result r.new memory.now memory.now }
+    ensures { Does numbers r.old memory.now result r.new memory.now }
 {
-    if r.sp + 1 > memory.len() {
-        return Err(MachineCause::StackUnderflow);
-    }
-    let number = memory[r.sp];
-    r.sp += 1;
+    let number = r.take(memory)?;
     Ok(Effect::Show(Text::Number(number)))
 }
 
@@ -58,14 +41,9 @@ pub(crate) fn show_string(
     memory: &[i32],
 ) -> Result<Effect, MachineCause>
     requires { Sound r.old (length memory.now) }
-    ensures after { left result r.new memory.now ≡ strings layout at (core r.old memory.now) }
-    ensures sound { Sound r.new (length memory.now) }
-    ensures held { Held result r.new memory.now memory.now }
+    ensures { Does (strings layout at) r.old memory.now result r.new memory.now }
 {
-    if r.sp + 1 > memory.len() {
-        return Err(MachineCause::StackUnderflow);
-    }
-    let reference = memory[r.sp];
+    let reference = r.top(memory)?;
     let address = refer(layout, r.limit, reference, 0)?;
     if memory[address] == 0 {
         r.sp += 1;

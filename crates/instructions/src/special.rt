@@ -1,6 +1,6 @@
-ghost use Rattle.std.specs.Prelude.{◌≡◌, ℕ, ◌+◌, ◌-◌, ◌<◌, ◌≤◌, length, ℤ, pos, ◌+ℤ◌};
-ghost use Rattle.instructions.specs.Core.{Sound, core, top};
-ghost use Rattle.instructions.specs.Effects.{left, Held};
+ghost use Rattle.std.specs.Prelude.{length};
+ghost use Rattle.instructions.specs.Core.{Sound};
+ghost use Rattle.instructions.specs.Effects.{Does};
 ghost use Rattle.instructions.specs.Moves.{at_pc, at_fp, at_hp};
 ghost use Rattle.instructions.specs.Stack.{pops, tops, limits};
 
@@ -12,58 +12,35 @@ use program::MachineCause;
 
 pub(crate) fn store_pc(r: &mut Registers, memory: &[i32]) -> Result<Effect, MachineCause>
     requires { Sound r.old (length memory.now) }
-    ensures after { left result r.new memory.now ≡ pops at_pc (core r.old memory.now) }
-    ensures sound { Sound r.new (length memory.now) }
-    ensures held { Held result r.new memory.now memory.now }
+    ensures { Does (pops at_pc) r.old memory.now result r.new memory.now }
 {
-    if r.sp + 1 > memory.len() {
-        return Err(MachineCause::StackUnderflow);
-    }
-    r.pc = memory[r.sp];
-    r.sp += 1;
+    r.pc = r.take(memory)?;
     Ok(Effect::Done)
 }
 
 pub(crate) fn store_fp(r: &mut Registers, memory: &[i32]) -> Result<Effect, MachineCause>
     requires { Sound r.old (length memory.now) }
-    ensures after { left result r.new memory.now ≡ pops at_fp (core r.old memory.now) }
-    ensures sound { Sound r.new (length memory.now) }
-    ensures held { Held result r.new memory.now memory.now }
+    ensures { Does (pops at_fp) r.old memory.now result r.new memory.now }
 {
-    if r.sp + 1 > memory.len() {
-        return Err(MachineCause::StackUnderflow);
-    }
-    r.fp = memory[r.sp];
-    r.sp += 1;
+    r.fp = r.take(memory)?;
     Ok(Effect::Done)
 }
 
 pub(crate) fn store_hp(r: &mut Registers, memory: &[i32]) -> Result<Effect, MachineCause>
     requires { Sound r.old (length memory.now) }
-    ensures after { left result r.new memory.now ≡ pops at_hp (core r.old memory.now) }
-    ensures sound { Sound r.new (length memory.now) }
-    ensures held { Held result r.new memory.now memory.now }
+    ensures { Does (pops at_hp) r.old memory.now result r.new memory.now }
 {
-    if r.sp + 1 > memory.len() {
-        return Err(MachineCause::StackUnderflow);
-    }
-    r.hp = memory[r.sp];
-    r.sp += 1;
+    r.hp = r.take(memory)?;
     Ok(Effect::Done)
 }
 
 pub(crate) fn store_sp(r: &mut Registers, memory: &[i32]) -> Result<Effect, MachineCause>
     requires { Sound r.old (length memory.now) }
-    ensures after { left result r.new memory.now ≡ tops (core r.old memory.now) }
-    ensures sound { Sound r.new (length memory.now) }
-    ensures held { Held result r.new memory.now memory.now }
+    ensures { Does tops r.old memory.now result r.new memory.now }
 {
-    if r.sp + 1 > memory.len() {
-        return Err(MachineCause::StackUnderflow);
-    }
     r.sp = place(
         MachineCause::StackPointer,
-        memory[r.sp],
+        r.top(memory)?,
         0,
         r.limit,
         memory.len() + 1,
@@ -77,16 +54,11 @@ pub(crate) fn store_hl(
     memory: &[i32],
 ) -> Result<Effect, MachineCause>
     requires { Sound r.old (length memory.now) }
-    ensures after { left result r.new memory.now ≡ limits layout (core r.old memory.now) }
-    ensures sound { Sound r.new (length memory.now) }
-    ensures held { Held result r.new memory.now memory.now }
+    ensures { Does (limits layout) r.old memory.now result r.new memory.now }
 {
-    if r.sp + 1 > memory.len() {
-        return Err(MachineCause::StackUnderflow);
-    }
     r.limit = place(
         MachineCause::HeapLimit,
-        memory[r.sp],
+        r.top(memory)?,
         1,
         layout.floor,
         r.sp + 2,

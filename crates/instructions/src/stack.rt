@@ -1,6 +1,6 @@
-ghost use Rattle.std.specs.Prelude.{◌≡◌, ℕ, ◌+◌, ◌-◌, ◌<◌, ◌≤◌, List, length, ℤ, pos, ◌+ℤ◌};
+ghost use Rattle.std.specs.Prelude.{◌≡◌, ◌+◌, ◌≤◌, length};
 ghost use Rattle.instructions.specs.Core.{Sound, core, top};
-ghost use Rattle.instructions.specs.Effects.{left, Held};
+ghost use Rattle.instructions.specs.Effects.{Does};
 ghost use Rattle.arithmetic.specs.Cells.{binary, unary};
 ghost use Rattle.instructions.specs.Core.{takes};
 ghost use Rattle.instructions.specs.Moves.{pushed};
@@ -8,6 +8,7 @@ ghost use Rattle.instructions.specs.Tests.{uses, room};
 ghost use Rattle.instructions.specs.Stack.{joins, turns, pushes, pops, swaps, reserves, releases};
 
 use crate::effect::Effect;
+use crate::place::cells;
 use crate::registers::Registers;
 use arithmetic::{Binary, Unary};
 use program::MachineCause;
@@ -18,14 +19,10 @@ pub(crate) fn join(
     memory: &mut [i32],
 ) -> Result<Effect, MachineCause>
     requires { Sound r.old (length memory.old) }
-    ensures after { left result r.new memory.new ≡ joins (binary op) (core r.old memory.old) }
-    ensures sound { Sound r.new (length memory.old) }
-    ensures held { Held result r.new memory.old memory.new }
+    ensures { Does (joins (binary op)) r.old memory.old result r.new memory.new }
 {
-    if r.sp + 2 > memory.len() {
-        return Err(MachineCause::StackUnderflow);
-    }
-    let value = arithmetic::compute(op, memory[r.sp + 1], memory[r.sp])?;
+    let (second, first) = r.pair(memory)?;
+    let value = arithmetic::compute(op, first, second)?;
     memory[r.sp + 1] = value;
     r.sp += 1;
     Ok(Effect::Done)
@@ -33,13 +30,10 @@ pub(crate) fn join(
 
 pub(crate) fn turn(op: Unary, r: &Registers, memory: &mut [i32]) -> Result<Effect, MachineCause>
     requires { Sound r.now (length memory.old) }
-    ensures after { left result r.now memory.new ≡ turns (unary op) (core r.now memory.old) }
-    ensures held { Held result r.now memory.old memory.new }
+    ensures { Does (turns (unary op)) r.now memory.old result r.now memory.new }
 {
-    if r.sp + 1 > memory.len() {
-        return Err(MachineCause::StackUnderflow);
-    }
-    memory[r.sp] = arithmetic::turn(op, memory[r.sp])?;
+    let value = r.top(memory)?;
+    memory[r.sp] = arithmetic::turn(op, value)?;
     Ok(Effect::Done)
 }
 
@@ -55,87 +49,53 @@ pub fn put(x: i32, r: &mut Registers, memory: &mut [i32])
 
 pub(crate) fn push(x: i32, r: &mut Registers, memory: &mut [i32]) -> Result<Effect, MachineCause>
     requires { Sound r.old (length memory.old) }
-    ensures after { left result r.new memory.new ≡ pushes (λ _. x) (core r.old memory.old) }
-    ensures sound { Sound r.new (length memory.old) }
-    ensures held { Held result r.new memory.old memory.new }
+    ensures { Does (pushes (λ _. x)) r.old memory.old result r.new memory.new }
 {
-    if r.limit + 1 > r.sp {
-        return Err(MachineCause::StackMeetsHeap);
-    }
+    r.room(1)?;
     put(x, r, memory);
     Ok(Effect::Done)
 }
 
 pub(crate) fn duplicate(r: &mut Registers, memory: &mut [i32]) -> Result<Effect, MachineCause>
     requires { Sound r.old (length memory.old) }
-    ensures after { left result r.new memory.new ≡ uses 1 (pushes top) (core r.old memory.old) }
-    ensures sound { Sound r.new (length memory.old) }
-    ensures held { Held result r.new memory.old memory.new }
+    ensures { Does (uses 1 (pushes top)) r.old memory.old result r.new memory.new }
 {
-    if r.sp + 1 > memory.len() {
-        return Err(MachineCause::StackUnderflow);
-    }
-    push(memory[r.sp], r, memory)
+    push(r.top(memory)?, r, memory)
 }
 
 pub(crate) fn pop(r: &mut Registers, memory: &[i32]) -> Result<Effect, MachineCause>
     requires { Sound r.old (length memory.now) }
-    ensures after { left result r.new memory.now ≡ pops (λ _ c. c) (core r.old memory.now) }
-    ensures sound { Sound r.new (length memory.now) }
-    ensures held { Held result r.new memory.now memory.now }
+    ensures { Does (pops (λ _ c. c)) r.old memory.now result r.new memory.now }
 {
-    if r.sp + 1 > memory.len() {
-        return Err(MachineCause::StackUnderflow);
-    }
-    r.sp += 1;
+    let _ = r.take(memory)?;
     Ok(Effect::Done)
 }
 
 pub(crate) fn swap(r: &Registers, memory: &mut [i32]) -> Result<Effect, MachineCause>
     requires { Sound r.now (length memory.old) }
-    ensures after { left result r.now memory.new ≡ swaps (core r.now memory.old) }
-    ensures held { Held result r.now memory.old memory.new }
+    ensures { Does swaps r.now memory.old result r.now memory.new }
 {
-    if r.sp + 2 > memory.len() {
-        return Err(MachineCause::StackUnderflow);
-    }
-    let first = memory[r.sp];
-    let second = memory[r.sp + 1];
-    memory[r.sp + 1] = first;
-    memory[r.sp] = second;
+    r.holds(2, memory)?;
+    memory.swap(r.sp + 1, r.sp);
     Ok(Effect::Done)
 }
 
 pub(crate) fn reserve(count: i32, r: &mut Registers, memory: &[i32]) -> Result<Effect, MachineCause>
     requires { Sound r.old (length memory.now) }
-    ensures after { left result r.new memory.now ≡ reserves count (core r.old memory.now) }
-    ensures sound { Sound r.new (length memory.now) }
-    ensures held { Held result r.new memory.now memory.now }
+    ensures { Does (reserves count) r.old memory.now result r.new memory.now }
 {
-    if count < 0 {
-        return Err(MachineCause::NegativeCount);
-    }
-    let count = count as usize;
-    if r.limit + count > r.sp {
-        return Err(MachineCause::StackMeetsHeap);
-    }
+    let count = cells(count)?;
+    r.room(count)?;
     r.sp -= count;
     Ok(Effect::Done)
 }
 
 pub(crate) fn release(count: i32, r: &mut Registers, memory: &[i32]) -> Result<Effect, MachineCause>
     requires { Sound r.old (length memory.now) }
-    ensures after { left result r.new memory.now ≡ releases count (core r.old memory.now) }
-    ensures sound { Sound r.new (length memory.now) }
-    ensures held { Held result r.new memory.now memory.now }
+    ensures { Does (releases count) r.old memory.now result r.new memory.now }
 {
-    if count < 0 {
-        return Err(MachineCause::NegativeCount);
-    }
-    let count = count as usize;
-    if r.sp + count > memory.len() {
-        return Err(MachineCause::StackUnderflow);
-    }
+    let count = cells(count)?;
+    r.holds(count, memory)?;
     r.sp += count;
     Ok(Effect::Done)
 }
@@ -143,11 +103,8 @@ pub(crate) fn release(count: i32, r: &mut Registers, memory: &[i32]) -> Result<E
 // Asks for a reading, for which there is room.
 pub(crate) fn ask(r: &Registers, memory: &[i32]) -> Result<Effect, MachineCause>
     requires { Sound r.now (length memory.now) }
-    ensures after { left result r.now memory.now ≡ room 1 takes (core r.now memory.now) }
-    ensures held { Held result r.now memory.now memory.now }
+    ensures { Does (room 1 takes) r.now memory.now result r.now memory.now }
 {
-    if r.limit + 1 > r.sp {
-        return Err(MachineCause::StackMeetsHeap);
-    }
+    r.room(1)?;
     Ok(Effect::Take)
 }

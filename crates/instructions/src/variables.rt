@@ -1,6 +1,6 @@
-ghost use Rattle.std.specs.Prelude.{◌≡◌, ℕ, ◌+◌, ◌-◌, ◌<◌, ◌≤◌, length, ℤ, pos, ◌+ℤ◌};
-ghost use Rattle.instructions.specs.Core.{Sound, core, top};
-ghost use Rattle.instructions.specs.Effects.{left, Held};
+ghost use Rattle.std.specs.Prelude.{length};
+ghost use Rattle.instructions.specs.Core.{Sound};
+ghost use Rattle.instructions.specs.Effects.{Does};
 ghost use Rattle.instructions.specs.Stack.{loads, stores, fetches, assigns};
 
 use crate::effect::Effect;
@@ -16,11 +16,9 @@ pub(crate) fn load(
     memory: &mut [i32],
 ) -> Result<Effect, MachineCause>
     requires { Sound r.old (length memory.old) }
-    ensures after { left result r.new memory.new ≡ loads offset (core r.old memory.old) }
-    ensures sound { Sound r.new (length memory.old) }
-    ensures held { Held result r.new memory.old memory.new }
+    ensures { Does (loads offset) r.old memory.old result r.new memory.new }
 {
-    let address = place(MachineCause::OutsideStack, r.fp, offset, r.sp, memory.len())?;
+    let address = r.variable(offset, memory)?;
     push(memory[address], r, memory)
 }
 
@@ -30,15 +28,11 @@ pub(crate) fn store(
     memory: &mut [i32],
 ) -> Result<Effect, MachineCause>
     requires { Sound r.old (length memory.old) }
-    ensures after { left result r.new memory.new ≡ stores offset (core r.old memory.old) }
-    ensures sound { Sound r.new (length memory.old) }
-    ensures held { Held result r.new memory.old memory.new }
+    ensures { Does (stores offset) r.old memory.old result r.new memory.new }
 {
-    if r.sp + 1 > memory.len() {
-        return Err(MachineCause::StackUnderflow);
-    }
-    let address = place(MachineCause::OutsideStack, r.fp, offset, r.sp, memory.len())?;
-    memory[address] = memory[r.sp];
+    let value = r.top(memory)?;
+    let address = r.variable(offset, memory)?;
+    memory[address] = value;
     r.sp += 1;
     Ok(Effect::Done)
 }
@@ -50,13 +44,9 @@ pub(crate) fn load_reference(
     memory: &mut [i32],
 ) -> Result<Effect, MachineCause>
     requires { Sound r.now (length memory.old) }
-    ensures after { left result r.now memory.new ≡ fetches layout offset (core r.now memory.old) }
-    ensures held { Held result r.now memory.old memory.new }
+    ensures { Does (fetches layout offset) r.now memory.old result r.now memory.new }
 {
-    if r.sp + 1 > memory.len() {
-        return Err(MachineCause::StackUnderflow);
-    }
-    let address = refer(layout, r.limit, memory[r.sp], offset)?;
+    let address = refer(layout, r.limit, r.top(memory)?, offset)?;
     memory[r.sp] = memory[address];
     Ok(Effect::Done)
 }
@@ -68,15 +58,11 @@ pub(crate) fn store_reference(
     memory: &mut [i32],
 ) -> Result<Effect, MachineCause>
     requires { Sound r.old (length memory.old) }
-    ensures after { left result r.new memory.new ≡ assigns layout offset (core r.old memory.old) }
-    ensures sound { Sound r.new (length memory.old) }
-    ensures held { Held result r.new memory.old memory.new }
+    ensures { Does (assigns layout offset) r.old memory.old result r.new memory.new }
 {
-    if r.sp + 2 > memory.len() {
-        return Err(MachineCause::StackUnderflow);
-    }
-    let address = refer(layout, r.limit, memory[r.sp + 1], offset)?;
-    memory[address] = memory[r.sp];
+    let (value, reference) = r.pair(memory)?;
+    let address = refer(layout, r.limit, reference, offset)?;
+    memory[address] = value;
     r.sp += 2;
     Ok(Effect::Done)
 }

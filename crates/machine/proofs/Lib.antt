@@ -1,4 +1,3 @@
-pub mod Fetching
 pub mod Keeping
 pub mod Showing
 pub mod Stepping

@@ -31,7 +31,3 @@ shown_more bs i start p q (Err e) lt room inv one =
     let k : p.space ≡ start.space - length (take i bs) = ap (λ (c : Console). c.space) inv.0 in
     let l : length (take i bs) ≡ i = length-take-le i bs (omega arith) in
     absurd (omega (arith, one.0))
-
--- what `&bs[s..]` is
-pub rest : (s : ℕ) (bs : List ℕ) → take (length bs - s) (drop s bs) ≡ drop s bs
-rest s bs = take_all (length bs - s) (drop s bs) (simp length-drop (omega arith))

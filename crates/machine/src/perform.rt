@@ -1,4 +1,4 @@
-ghost use Rattle.std.specs.Prelude.{◌≡◌, ℕ, ◌≤◌, length};
+ghost use Rattle.std.specs.Prelude.{◌≡◌, ◌≤◌, length};
 ghost use Rattle.instructions.specs.Core.{Sound, core};
 ghost use Rattle.instructions.specs.Effects.{left, Held};
 ghost use Rattle.machine.specs.Step.{performed};
@@ -8,6 +8,7 @@ use instructions::{Effect, Layout, Registers, execute};
 use program::MachineCause;
 
 // Does the instruction at pc, but for what it asks of the port.
+#[tactic(auto, unfolding(crate::specs::Step::performed))]
 pub(crate) fn perform(
     layout: Layout,
     r: &mut Registers,
@@ -19,9 +20,7 @@ pub(crate) fn perform(
     ensures held { Held result r.new memory.old memory.new }
 {
     let at = r.pc;
-    let Some(instruction) = fetch(layout.code, at, memory) else {
-        return Err(MachineCause::NoInstruction);
-    };
+    let instruction = fetch(layout.code, at, memory).ok_or(MachineCause::NoInstruction)?;
     r.pc = instruction.next;
     execute(layout, at, instruction.op, instruction.argument, r, memory)
 }

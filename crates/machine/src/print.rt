@@ -1,8 +1,9 @@
-ghost use Rattle.std.specs.Prelude.{◌≡◌, ℕ, ◌+◌, ◌≤◌, length, if◌then◌else◌, nat_le};
-ghost use Rattle.std.specs.Fmt.{signed_decimal};
+ghost use Rattle.std.specs.Prelude.{◌≡◌, ◌≤◌, length};
 ghost use Rattle.machine.specs.Console.{console, showing};
+ghost use Rattle.machine.specs.Steps.{Printed};
 ghost use Rattle.instructions.specs.Effects.{written};
 
+use crate::outcome::Outcome;
 use decimal::spell;
 use instructions::Text;
 use port::Port;
@@ -18,39 +19,27 @@ fn show_bytes<P: Port>(bytes: &[u8], port: &mut P)
     }
 }
 
-// Shows all the bytes if there is space for them, and says whether there is.
-fn print_bytes<P: Port>(bytes: &[u8], port: &mut P) -> bool
-    ensures fits { result ≡ nat_le (length bytes.now) (P.meaning port.old).space }
-    ensures shows { console (P.meaning port.new) ≡ (if result then showing bytes.now (console (P.meaning port.old)) else console (P.meaning port.old)) }
+// Shows all the bytes if there is space for them.
+fn print_bytes<P: Port>(bytes: &[u8], port: &mut P) -> Result<(), Outcome>
+    ensures shows { Printed bytes.now (console (P.meaning port.old)) result (console (P.meaning port.new)) }
     ensures openings { (P.meaning port.new).openings ≡ (P.meaning port.old).openings }
 {
     if bytes.len() > port.space() {
-        return false;
+        return Err(Outcome::Space);
     }
     show_bytes(bytes, port);
-    true
-}
-
-// Shows a number's decimal text, if there is space for it.
-fn print_number<P: Port>(number: i32, port: &mut P) -> bool
-    ensures fits { result ≡ nat_le (length (signed_decimal number)) (P.meaning port.old).space }
-    ensures shows { console (P.meaning port.new) ≡ (if result then showing (signed_decimal number) (console (P.meaning port.old)) else console (P.meaning port.old)) }
-    ensures openings { (P.meaning port.new).openings ≡ (P.meaning port.old).openings }
-{
-    let numeral = spell(number);
-    print_bytes(numeral.text(), port)
+    Ok(())
 }
 
 // Shows a text, if there is space for all of it.
-pub(crate) fn print<P: Port>(text: Text, port: &mut P) -> bool
-    ensures fits { result ≡ nat_le (length (written text)) (P.meaning port.old).space }
-    ensures shows { console (P.meaning port.new) ≡ (if result then showing (written text) (console (P.meaning port.old)) else console (P.meaning port.old)) }
+pub(crate) fn print<P: Port>(text: Text, port: &mut P) -> Result<(), Outcome>
+    ensures shows { Printed (written text) (console (P.meaning port.old)) result (console (P.meaning port.new)) }
     ensures openings { (P.meaning port.new).openings ≡ (P.meaning port.old).openings }
 {
     match text {
         Text::Byte(byte) => print_bytes(&[byte], port),
         Text::Flag(true) => print_bytes(b"true", port),
         Text::Flag(false) => print_bytes(b"false", port),
-        Text::Number(number) => print_number(number, port),
+        Text::Number(number) => print_bytes(spell(number).text(), port),
     }
 }

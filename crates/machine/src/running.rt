@@ -1,21 +1,10 @@
-ghost use Rattle.machine.specs.Turns.{marked, Answered};
-ghost use Rattle.std.specs.Prelude.{◌≡◌};
+ghost use Rattle.machine.specs.Turns.{Answered};
 
 use crate::outcome::{Outcome, Report};
 use crate::state::{Machine, Status};
 use crate::turns::run_live;
 use port::Port;
 use program::{Fault, MachineCause, Place};
-
-fn mark(outcome: Outcome) -> Status
-    ensures { result ≡ marked outcome }
-{
-    match outcome {
-        Outcome::Halted => Status::Halted,
-        Outcome::Fault(fault) => Status::Faulted(fault),
-        _ => Status::Live,
-    }
-}
 
 // Runs a machine for at most as many steps as the allowance has, over its memory and any port. A memory of another
 // length than the program's is refused. A halted or faulted machine answers as it did, with no step.
@@ -43,7 +32,7 @@ pub fn run<P: Port>(
             let mut registers = machine.registers;
             let report = run_live(machine.layout, &mut registers, memory, port, allowance);
             machine.registers = registers;
-            machine.status = mark(report.outcome);
+            machine.status = Status::from(report.outcome);
             Ok(report)
         }
     }

@@ -1,5 +1,5 @@
 ghost use Rattle.machine.specs.Start.{Started};
-ghost use Rattle.std.specs.Prelude.{◌≡◌, length};
+ghost use Rattle.std.specs.Prelude.{◌≡◌};
 
 use crate::state::{Machine, Status};
 use instructions::{Layout, Registers};

@@ -4,7 +4,7 @@ use instructions::{Layout, Registers};
 use program::Fault;
 
 // May a machine go on?
-#[derive(Clone, Copy)]
+#[derive(Clone, Copy, PartialEq, Eq)]
 pub enum Status {
     Live,
     Halted,

@@ -1,11 +1,11 @@
-ghost use Rattle.std.specs.Prelude.{◌≡◌, ℕ, ◌≤◌, length};
+ghost use Rattle.std.specs.Prelude.{◌≡◌, ◌≤◌, length};
 ghost use Rattle.instructions.specs.Core.{Sound, core};
 ghost use Rattle.machine.specs.Console.{console};
 ghost use Rattle.instructions.specs.Effects.{asks, Roomy};
 ghost use Rattle.machine.specs.Step.{answered, step as one_step};
 ghost use Rattle.machine.specs.Steps.{step_left};
 
-use crate::outcome::{Outcome, Step};
+use crate::outcome::Outcome;
 use crate::perform::perform;
 use crate::print::print;
 use instructions::{Effect, Layout, Registers, Text, put};
@@ -19,59 +19,51 @@ fn settle<P: Port>(
     r: &mut Registers,
     memory: &mut [i32],
     port: &mut P,
-) -> Step
+) -> Result<(), Outcome>
     requires { (Sound next (length memory.old)) × ((Sound r.old (length memory.old)) × (Roomy effect next (length memory.old))) }
     ensures after { step_left result (core r.new memory.new) (console (P.meaning port.new)) ≡ answered (asks effect (core next memory.old)) (core r.old memory.old) (console (P.meaning port.old)) }
     ensures sound { Sound r.new (length memory.old) }
     ensures openings { (P.meaning port.old).openings ≤ (P.meaning port.new).openings }
 {
     match effect {
-        Effect::Done => {
-            *r = next;
-            Step::Moved
-        }
-        Effect::Halt => Step::Ended,
+        Effect::Done => *r = next,
+        Effect::Halt => return Err(Outcome::Halted),
         Effect::Take => {
-            let Some(reading) = port.take() else {
-                return Step::Stopped(Outcome::Reading);
-            };
+            let reading = port.take().ok_or(Outcome::Reading)?;
             *r = next;
             put(reading.value, r, memory);
-            Step::Moved
         }
         Effect::Spell(byte, reference) => {
-            if !print(Text::Byte(byte), port) {
-                return Step::Stopped(Outcome::Space);
-            }
+            print(Text::Byte(byte), port)?;
             memory[next.sp] = reference;
             *r = next;
-            Step::Moved
         }
         Effect::Show(text) => {
-            if !print(text, port) {
-                return Step::Stopped(Outcome::Space);
-            }
+            print(text, port)?;
             *r = next;
-            Step::Moved
         }
     }
+    Ok(())
 }
 
-// One step: the instruction at pc, and what the port gives or takes for it.
+// One step: the instruction at pc, and what the port gives or takes for it. An outcome ends the run; it is of a step
+// that was none, but for that of HALT.
+#[tactic(auto, using(crate::proofs::Stepping::answered_held), unfolding(crate::specs::Step::step))]
 pub(crate) fn step<P: Port>(
     layout: Layout,
     r: &mut Registers,
     memory: &mut [i32],
     port: &mut P,
-) -> Step
+) -> Result<(), Outcome>
     requires { (Sound r.old (length memory.old)) × (layout.code ≤ length memory.old) }
     ensures after { step_left result (core r.new memory.new) (console (P.meaning port.new)) ≡ one_step layout (core r.old memory.old) (console (P.meaning port.old)) }
     ensures sound { Sound r.new (length memory.old) }
     ensures openings { (P.meaning port.old).openings ≤ (P.meaning port.new).openings }
 {
     let mut next = *r;
-    match perform(layout, &mut next, memory) {
-        Ok(effect) => settle(effect, next, r, memory, port),
-        Err(cause) => Step::Stopped(Outcome::Fault(Fault::Machine(cause, Place::Counter(r.pc)))),
-    }
+    let effect = perform(layout, &mut next, memory).map_err(|cause| Outcome::Fault(Fault::Machine(
+        cause,
+        Place::Counter(r.pc),
+    )))?;
+    settle(effect, next, r, memory, port)
 }

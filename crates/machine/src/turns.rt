@@ -1,9 +1,9 @@
-ghost use Rattle.std.specs.Prelude.{◌≡◌, ℕ, ◌≤◌, length};
+ghost use Rattle.std.specs.Prelude.{◌≡◌, ◌≤◌, length};
 ghost use Rattle.instructions.specs.Core.{Sound, core};
 ghost use Rattle.machine.specs.Console.{console};
 ghost use Rattle.machine.specs.Run.{ran, runs};
 
-use crate::outcome::{Outcome, Report, Step};
+use crate::outcome::{Outcome, Report};
 use crate::step::step;
 use instructions::{Layout, Registers};
 use port::Port;
@@ -21,19 +21,16 @@ pub(crate) fn run_live<P: Port>(
     ensures sound { Sound r.new (length memory.old) }
     ensures openings { (P.meaning port.old).openings ≤ (P.meaning port.new).openings }
 {
-    let mut steps = 0;
-    while steps < allowance {
-        match step(layout, r, memory, port) {
-            Step::Moved => steps += 1,
-            Step::Ended => return Report {
-                steps: steps + 1,
-                outcome: Outcome::Halted,
-            },
-            Step::Stopped(outcome) => return Report { steps, outcome },
+    for done in 0..allowance {
+        if let Err(outcome) = step(layout, r, memory, port) {
+            return Report {
+                steps: done + outcome.last_step(),
+                outcome,
+            };
         }
     }
     Report {
-        steps,
+        steps: allowance,
         outcome: Outcome::Spent,
     }
 }

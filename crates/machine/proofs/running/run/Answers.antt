@@ -22,7 +22,7 @@ returns-in-Live g c =
       layout = refl;
       cells = refl;
       runs = e.after ∙ sym (ap (λ t. rerun t m.layout c.args.allowance (core m.registers c.args.memory.now) (console (g.P.Port.meaning c.args.port.now))) c.in-Live.is);
-      status = c.mark-machine.ensures;
+      status = c.from-machine.ensures;
       openings = e.openings;
       code = s.code;
     }
