@@ -26,19 +26,7 @@ pub fn next_line<'a>(text: &'a [u8]) -> Option<(&'a [u8], &'a [u8])>
 pub fn line_in<'a>(text: &'a [u8], number: usize) -> Option<&'a [u8]>
     ensures { MatchOption result (line_at number (lines text.now) ≡ None) (λ l. line_at number (lines text.now) ≡ Some l.now) }
 {
-    if number == 0 {
-        return None;
-    }
-    let mut rest = text;
-    let mut left = number;
-    while let Some((line, after)) = next_line(rest) {
-        if left == 1 {
-            return Some(line);
-        }
-        left -= 1;
-        rest = after;
-    }
-    None
+    Lines::new(text).nth(number.checked_sub(1)?)
 }
 
 // The lines of a text, in order.
