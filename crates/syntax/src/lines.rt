@@ -37,7 +37,8 @@ pub struct Lines<'a> {
 
 impl<'a> Lines<'a> {
     pub fn new(text: &'a [u8]) -> Lines<'a>
-        ensures { lines_left result ≡ lines text.now }
+        ensures lines { lines_left result ≡ lines text.now }
+        ensures count { length (lines_left result) ≤ length text.now }
     {
         Lines { rest: text }
     }

@@ -9,5 +9,5 @@ pub returns : goal.returns
 returns c =
     let ls = lines c.args.text.now in
     let at = c.in_ok-checked_sub.ensures in
-    let got = nth_from_yields_List c.nth.result c.nth.new.self _ c.nth.ensures.ran (YieldsList-from_first (λ l. l.now) lines_left ls c.new.ensures) in
+    let got = nth_from_yields_List c.nth.result c.nth.new.self _ c.nth.ensures.ran (YieldsList-from_first (λ l. l.now) lines_left ls c.new.ensures.lines) in
     looked_up (λ l. l.now) c.nth.result _ (got ∙ ap (slice_get ls) at.1 ∙ line_get c.args.number ls at.0)
