@@ -133,12 +133,7 @@ then_sign_short d (t ∷ ts) k a h = go (is_sign_token d t) refl
     go false e = rw (e, then_sign) tt
 
 then_further_short : (ts : List Tok) (k : ℤ → List Tok → Form) → Small ts → ((z : ℤ) (us : List Tok) → Small us → Modest (k z us)) → Modest (then_further ts k)
-then_further_short [] k a h = tt
-then_further_short (t ∷ ts) k a h = go (is_sign_token 44 t) refl
-  where
-    go : (b : Bool) → is_sign_token 44 t ≡ b → Modest (then_further (t ∷ ts) k)
-    go true e = rw (e, then_further) (then_number_short ts k (later t ts a) h)
-    go false e = rw (e, then_further) tt
+then_further_short ts k a h = then_sign_short 44 ts _ a (λ us b. then_number_short us k b h)
 
 unit_short : (ts : List Tok) → Small ts → Modest (unit_form ts)
 unit_short ts a =
