@@ -4,7 +4,7 @@ ghost use Rattle.syntax.specs.Lines.{lines, line_at, not_end};
 ghost use Rattle.syntax.specs.Left.{lines_left};
 ghost use Rattle.std.specs.Iterator.{YieldsFirstRef, item_count};
 
-use crate::bytes::{Kind, run_len};
+use crate::bytes::run_len;
 
 // The first line of a text, without its byte 10, and the text after it.
 pub fn next_line<'a>(text: &'a [u8]) -> Option<(&'a [u8], &'a [u8])>
@@ -15,7 +15,7 @@ pub fn next_line<'a>(text: &'a [u8]) -> Option<(&'a [u8], &'a [u8])>
     if text.is_empty() {
         return None;
     }
-    let (line, rest) = text.split_at(run_len(text, Kind::Line));
+    let (line, rest) = text.split_at(run_len(text, |byte| byte != b'\n'));
     match rest {
         [_, after @ ..] => Some((line, after)),
         [] => Some((line, rest)),

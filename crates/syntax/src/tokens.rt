@@ -6,7 +6,7 @@ ghost use Rattle.syntax.specs.Meant.{meant, token_of};
 ghost use Rattle.syntax.specs.Left.{tokens_left};
 ghost use Rattle.std.specs.Iterator.{YieldsFirstBy, item_count};
 
-use crate::bytes::{Kind, is_digit, run_len, starts_name};
+use crate::bytes::{continues_name, is_blank, run_len, starts_name};
 
 // A token of a line. A name, a number and a text borrow their bytes from it.
 #[derive(Clone, Copy)]
@@ -24,8 +24,8 @@ fn begins_number(line: &[u8]) -> bool
     ensures { result ≡ figures (slice_index line.now 0) (drop 1 line.now) }
 {
     match line {
-        [b'-', second, ..] => is_digit(*second),
-        [first, ..] => is_digit(*first),
+        [b'-', second, ..] => second.is_ascii_digit(),
+        [first, ..] => first.is_ascii_digit(),
         [] => false,
     }
 }
@@ -52,7 +52,7 @@ fn text_token<'a>(line: &'a [u8]) -> (Token<'a>, &'a [u8])
     ensures { read (meant result.0) result.1.now ≡ token_of line.now }
 {
     let inner = &line[1..];
-    let (body, rest) = inner.split_at(run_len(inner, Kind::Quoted));
+    let (body, rest) = inner.split_at(run_len(inner, |byte| byte != b'"'));
     match rest {
         [_, after @ ..] => (Token::Text(body), after),
         [] => (Token::Sign(b'"'), inner),
@@ -65,7 +65,7 @@ fn name_token<'a>(line: &'a [u8]) -> (Token<'a>, &'a [u8])
     requires lettered { starts (slice_index line.now 0) ≡ true }
     ensures { read (meant result.0) result.1.now ≡ token_of line.now }
 {
-    let (word, rest) = line.split_at(run_len(line, Kind::Name));
+    let (word, rest) = line.split_at(run_len(line, continues_name));
     if word.len() <= 31 {
         (Token::Name(word), rest)
     } else {
@@ -79,7 +79,7 @@ fn number_token<'a>(line: &'a [u8]) -> (Token<'a>, &'a [u8])
     requires figures { figures (slice_index line.now 0) (drop 1 line.now) ≡ true }
     ensures { read (meant result.0) result.1.now ≡ token_of line.now }
 {
-    let (digits, rest) = line.split_at(1 + run_len(&line[1..], Kind::Digit));
+    let (digits, rest) = line.split_at(1 + run_len(&line[1..], |byte| byte.is_ascii_digit()));
     (Token::Number(digits), rest)
 }
 
@@ -106,7 +106,7 @@ fn token_at<'a>(line: &'a [u8]) -> (Token<'a>, &'a [u8])
 fn first_token<'a>(line: &'a [u8]) -> Option<(Token<'a>, &'a [u8])>
     ensures { MatchOption result (next_read line.now ≡ None) (λ p. next_read line.now ≡ Some (read (meant p.0) p.1.now)) }
 {
-    let (_, rest) = line.split_at(run_len(line, Kind::Blank));
+    let (_, rest) = line.split_at(run_len(line, is_blank));
     match rest {
         [] => None,
         [b';' | b'#', ..] => None,
