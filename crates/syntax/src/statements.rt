@@ -11,7 +11,7 @@ ghost use Rattle.syntax.specs.Stated.{stated, formed, label_of, item_of, argued,
 ghost use Rattle.syntax.specs.Causes.{line_cause};
 
 use crate::bytes::is_plain;
-use crate::tokens::{Token, next_token};
+use crate::tokens::{Token, Tokens, next_token};
 use isa::{Opcode, Operand, opcode_named, operand_of};
 use program::{AssemblyCause, Section, is_word};
 
@@ -202,22 +202,19 @@ fn is_sign(token: Token, sign: u8) -> bool
 fn are_items(line: &[u8]) -> bool
     ensures { result ≡ is_list (tokens line.now) }
 {
-    let mut rest = line;
-    loop {
-        let Some((token, after)) = next_token(rest) else {
-            return false;
+    let mut item_due = true;
+    for token in Tokens::new(line) {
+        let fits = if item_due {
+            is_item(token)
+        } else {
+            is_sign(token, b',')
         };
-        if !is_item(token) {
+        if !fits {
             return false;
         }
-        let Some((comma, more)) = next_token(after) else {
-            return true;
-        };
-        if !is_sign(comma, b',') {
-            return false;
-        }
-        rest = more;
+        item_due = !item_due;
     }
+    !item_due
 }
 
 fn words<'a>(label: Option<&'a [u8]>, line: &'a [u8]) -> Option<Statement<'a>>
