@@ -228,15 +228,12 @@ fn data_statement<'a>(label: Option<&'a [u8]>, line: &'a [u8]) -> Option<Stateme
     ensures { formed result ≡ data_form (label_of label.entry) (tokens line.now) }
 {
     let (first, rest) = next_token(line)?;
-    let Some((second, rest)) = next_token(rest) else {
-        return words(label, line);
-    };
-    if !is_dup(second) {
-        return words(label, line);
-    }
-    match first {
-        Token::Number(count) => copies(label, count, rest),
-        _ => None,
+    match next_token(rest) {
+        Some((second, rest)) if is_dup(second) => match first {
+            Token::Number(count) => copies(label, count, rest),
+            _ => None,
+        },
+        _ => words(label, line),
     }
 }
 
