@@ -24,11 +24,6 @@ pub lines_last : (xs line rest : List ℕ) → 0 < length xs → line ≡ front 
 lines_last xs line [] h p q e = lines_cut xs line [] h p q
 lines_last xs line (r ∷ rs) h p q e = absurd (omega arith)
 
--- nothing after the last line
-pub rest_last : (rest : List ℕ) → length rest ≤ 0 → rest ≡ drop 1 rest
-rest_last [] h = refl
-rest_last (r ∷ rs) h = absurd (omega arith)
-
 -- a text has at most as many lines as bytes
 pub lines_count : (xs : List ℕ) → length (lines xs) ≤ length xs
 lines_count [] = omega arith
