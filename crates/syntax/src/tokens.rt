@@ -1,7 +1,7 @@
 ghost use Rattle.std.specs.Prelude.{◌≡◌, ℕ, ◌+◌, ◌<◌, ◌≤◌, true, false, List, [], ◌∷◌, length, drop, Some, None, MatchOption, slice_index};
-ghost use Rattle.syntax.specs.Bytes.{starts};
+ghost use Rattle.syntax.specs.Bytes.{starts, front, after};
 ghost use Rattle.syntax.specs.Cells.{span};
-ghost use Rattle.syntax.specs.Tokens.{begins, figures, token_of_bytes, next_read, read, tokens};
+ghost use Rattle.syntax.specs.Tokens.{figures, closed, not_quote, next_read, read, tokens};
 ghost use Rattle.syntax.specs.Meant.{meant, token_of};
 ghost use Rattle.syntax.specs.Left.{tokens_left};
 ghost use Rattle.std.specs.Iterator.{YieldsFirstBy, item_count};
@@ -20,7 +20,6 @@ pub enum Token<'a> {
 
 // Is the first byte a digit, or a minus before a digit?
 fn begins_number(line: &[u8]) -> bool
-    requires { 0 < length line.now }
     ensures { result ≡ figures (slice_index line.now 0) (drop 1 line.now) }
 {
     match line {
@@ -45,13 +44,10 @@ fn quoted_token<'a>(line: &'a [u8]) -> (Token<'a>, &'a [u8])
     }
 }
 
-// A text between quotation marks, or a quotation mark alone.
-fn text_token<'a>(line: &'a [u8]) -> (Token<'a>, &'a [u8])
-    requires begun { 0 < length line.now }
-    requires quotation { slice_index line.now 0 ≡ 34 }
-    ensures { read (meant result.0) result.1.now ≡ token_of line.now }
+// After a quotation mark: the text up to the next one, or the mark alone.
+fn text_token<'a>(inner: &'a [u8]) -> (Token<'a>, &'a [u8])
+    ensures { read (meant result.0) result.1.now ≡ closed inner.now (front not_quote inner.now) (after not_quote inner.now) }
 {
-    let inner = &line[1..];
     let (body, rest) = inner.split_at(run_len(inner, |byte| byte != b'"'));
     match rest {
         [_, after @ ..] => (Token::Text(body), after),
@@ -97,7 +93,7 @@ fn token_at<'a>(line: &'a [u8]) -> (Token<'a>, &'a [u8])
     }
     match first {
         b'\'' => quoted_token(line),
-        b'"' => text_token(line),
+        b'"' => text_token(&line[1..]),
         _ => (Token::Sign(first), &line[1..]),
     }
 }
