@@ -1,7 +1,7 @@
 ghost use Rattle.std.specs.Prelude.{◌≡◌, ℕ, ◌+◌, ◌<◌, ◌≤◌, true, false, List, [], ◌∷◌, length, drop, Some, None, MatchOption, slice_index};
-ghost use Rattle.syntax.specs.Bytes.{starts, front, after};
+ghost use Rattle.syntax.specs.Bytes.{starts, continues, front, after};
 ghost use Rattle.syntax.specs.Cells.{span};
-ghost use Rattle.syntax.specs.Tokens.{figures, closed, not_quote, next_read, read, tokens};
+ghost use Rattle.syntax.specs.Tokens.{figures, closed, word, not_quote, next_read, read, tokens};
 ghost use Rattle.syntax.specs.Meant.{meant, token_of};
 ghost use Rattle.syntax.specs.Left.{tokens_left};
 ghost use Rattle.std.specs.Iterator.{YieldsFirstBy, item_count};
@@ -57,9 +57,7 @@ fn text_token<'a>(inner: &'a [u8]) -> (Token<'a>, &'a [u8])
 
 // A word of at most 31 bytes is a name; a longer one is a sign that no form has.
 fn name_token<'a>(line: &'a [u8]) -> (Token<'a>, &'a [u8])
-    requires begun { 0 < length line.now }
-    requires lettered { starts (slice_index line.now 0) ≡ true }
-    ensures { read (meant result.0) result.1.now ≡ token_of line.now }
+    ensures { read (meant result.0) result.1.now ≡ read (word (slice_index line.now 0) (front continues line.now)) (after continues line.now) }
 {
     let (word, rest) = line.split_at(run_len(line, continues_name));
     if word.len() <= 31 {
