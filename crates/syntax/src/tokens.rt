@@ -1,7 +1,8 @@
 ghost use Rattle.std.specs.Prelude.{◌≡◌, ℕ, ◌+◌, ◌<◌, ◌≤◌, true, false, List, [], ◌∷◌, length, drop, Some, None, MatchOption, slice_index};
+ghost use Rattle.decimal.specs.Numbers.{digit, numeral};
 ghost use Rattle.syntax.specs.Bytes.{starts, continues, front, after};
 ghost use Rattle.syntax.specs.Cells.{span};
-ghost use Rattle.syntax.specs.Tokens.{figures, closed, word, not_quote, next_read, read, tokens};
+ghost use Rattle.syntax.specs.Tokens.{number, figures, closed, word, not_quote, next_read, read, tokens};
 ghost use Rattle.syntax.specs.Meant.{meant, token_of};
 ghost use Rattle.syntax.specs.Left.{tokens_left};
 ghost use Rattle.std.specs.Iterator.{YieldsFirstBy, item_count};
@@ -67,11 +68,10 @@ fn name_token<'a>(line: &'a [u8]) -> (Token<'a>, &'a [u8])
     }
 }
 
+// The first byte and the digits after it.
 fn number_token<'a>(line: &'a [u8]) -> (Token<'a>, &'a [u8])
-    requires begun { 0 < length line.now }
-    requires unlettered { starts (slice_index line.now 0) ≡ false }
-    requires figures { figures (slice_index line.now 0) (drop 1 line.now) ≡ true }
-    ensures { read (meant result.0) result.1.now ≡ token_of line.now }
+    requires { 0 < length line.now }
+    ensures { read (meant result.0) result.1.now ≡ read (number (numeral (slice_index line.now 0 ∷ front digit (drop 1 line.now)))) (after digit (drop 1 line.now)) }
 {
     let (digits, rest) = line.split_at(1 + run_len(&line[1..], |byte| byte.is_ascii_digit()));
     (Token::Number(digits), rest)
