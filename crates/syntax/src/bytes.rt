@@ -9,6 +9,7 @@ pub(crate) fn is_plain(byte: u8) -> bool
 }
 
 // May the byte begin a name?
+// Stays: a rule of the project asks for character literals and ranges for the bytes that begin a label.
 pub(crate) fn starts_name(byte: u8) -> bool
     ensures { result ≡ starts byte }
 {
@@ -28,7 +29,7 @@ pub(crate) fn is_blank(byte: u8) -> bool
     matches!(byte, b' ' | b'\t')
 }
 
-// How many bytes at the front pass.
+// How many bytes at the front pass; the closure answers a test p.
 pub(crate) fn run_len<F: Fn(u8) -> bool>(line: &[u8], passes: F) -> usize
     requires { F.IsAlwaysCallable passes }
     ensures within { result ≤ length line.now }

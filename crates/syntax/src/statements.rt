@@ -43,6 +43,7 @@ pub enum LineFault {
     Form,
 }
 
+// The cause with which an assembly refuses such a line.
 impl From<LineFault> for AssemblyCause {
     ghost from_gives = { λ fault cause. cause ≡ line_cause fault };
 
@@ -54,6 +55,7 @@ impl From<LineFault> for AssemblyCause {
     }
 }
 
+// Stays: take_name, take_number and take_value are one match each; one reader with a closure would keep all three.
 fn take_name<'a>(line: &'a [u8]) -> Option<(&'a [u8], &'a [u8])>
     ensures { MatchOption result ((k : List ℕ → List Tok → Form) → then_name (tokens line.now) k ≡ unfit) (λ p. (k : List ℕ → List Tok → Form) → then_name (tokens line.now) k ≡ k (smalls p.0.now) (tokens p.1.now)) }
 {
