@@ -123,6 +123,7 @@ pub struct Tokens<'a> {
 }
 
 impl<'a> Tokens<'a> {
+    #[tactic(auto, using(crate::proofs::Tokened::tokens_count))]
     pub fn new(line: &'a [u8]) -> Tokens<'a>
         ensures tokens { tokens_left result ≡ tokens line.now }
         ensures count { length (tokens_left result) ≤ length line.now }
