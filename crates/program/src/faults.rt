@@ -54,10 +54,10 @@ impl Fault {
         ensures { result ≡ (refusal self).place }
     {
         match self {
-            Fault::Assembly(_, place) => place,
-            Fault::Check(_, place) => place,
-            Fault::Machine(_, place) => place,
-            Fault::Port(_, place) => place,
+            Fault::Assembly(_, place)
+            | Fault::Machine(_, place)
+            | Fault::Port(_, place)
+            | Fault::Check(_, place) => place,
         }
     }
 }
