@@ -3,7 +3,7 @@ ghost use Rattle.instructions.specs.Core.{core, top, under};
 ghost use Rattle.instructions.specs.Tests.{placed, referred};
 
 use crate::layout::Layout;
-use crate::place::{place, refer};
+use crate::place::place;
 use crate::processor::Processor;
 use program::MachineCause;
 
@@ -73,7 +73,16 @@ impl<'a> Processor<'a> {
     ) -> Result<usize, MachineCause>
         ensures { result ≡ referred layout self.now.registers.limit reference offset }
     {
-        refer(layout, self.registers.limit, reference, offset)
+        if reference == 0 {
+            return Err(MachineCause::NullReference);
+        }
+        place(
+            MachineCause::ReferenceRange,
+            reference,
+            offset,
+            layout.code,
+            self.registers.limit,
+        )
     }
 
     // The top cell, which leaves the stack.

@@ -14,6 +14,7 @@ use isa::Opcode;
 use program::MachineCause;
 
 impl<'a> Processor<'a> {
+    // Stays: one match over a closed enum; no table of functions or closures may be made and handed out.
     fn execute(
         &mut self,
         layout: Layout,
@@ -60,6 +61,7 @@ impl<'a> Processor<'a> {
             Opcode::Deref => self.load_reference(layout, 0),
             Opcode::Call => self.call(),
             Opcode::Loadfp => self.push(self.registers.fp),
+            // Stays: `as`, since no i32 is From a usize, and TryFrom would answer an error that cannot come.
             Opcode::Loadsp => self.push(self.registers.sp as i32 - 1),
             Opcode::Storefp => self.store_fp(),
             Opcode::Rmem => self.reserve(argument),

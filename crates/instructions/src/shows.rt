@@ -3,7 +3,7 @@ ghost use Rattle.instructions.specs.Stack.{flags, letters, numbers, strings};
 
 use crate::effect::{Effect, Text};
 use crate::layout::Layout;
-use crate::place::{letter, refer};
+use crate::place::letter;
 use crate::processor::Processor;
 use program::MachineCause;
 

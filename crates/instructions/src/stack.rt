@@ -12,6 +12,7 @@ use arithmetic::{Binary, Unary};
 use program::MachineCause;
 
 impl<'a> Processor<'a> {
+    // Stays: a closure in place of the enum needs a ghost value at each call for what it computes; `binary` says it once.
     pub(crate) fn join(&mut self, op: Binary) -> Result<Effect, MachineCause>
         ensures { Does (joins (binary op)) self.old self.new result }
     {

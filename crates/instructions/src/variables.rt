@@ -3,7 +3,6 @@ ghost use Rattle.instructions.specs.Stack.{loads, stores, fetches, assigns};
 
 use crate::effect::Effect;
 use crate::layout::Layout;
-use crate::place::{place, refer};
 use crate::processor::Processor;
 use program::MachineCause;
 
