@@ -7,7 +7,7 @@ use Rattle.instructions.specs.declared.effect.Text.{Text}
 use Rattle.instructions.specs.declared.effect.Text.TheVariants.{Byte, Flag, Number}
 use Rattle.instructions.specs.declared.effect.Effect.{Effect}
 use Rattle.instructions.specs.declared.effect.Effect.TheVariants.{Done, Halt, Take, Show, Spell}
-use Rattle.instructions.specs.Core.{Next, Act, Sound, goes, halts, takes, shows, faults, core}
+use Rattle.instructions.specs.Core.{Next, Act, goes, halts, takes, shows, faults, core}
 use Rattle.instructions.specs.Moves.{put}
 use Rattle.instructions.specs.Stack.{spelled}
 
@@ -48,10 +48,3 @@ Unwritten (Spell b x) before after = after ≡ before
 abbrev pub Held : Result Effect MachineCause → Registers → List ℤ → List ℤ → Type 0
 Held (Ok e) r before after = Roomy e r (length before) × Unwritten e before after
 Held (Err f) r before after = after ≡ before
-
--- a function that does an instruction: it answers and leaves what the act comes to, sound, and with what is asked of
--- the port still to be written
-pub record Does (act : Act) (r : Registers) (before : List ℤ) (result : Result Effect MachineCause) (r' : Registers) (after : List ℤ) : Type 0 where
-  pub is : left result r' after ≡ act (core r before)
-  pub sound : Sound r' (length before)
-  pub held : Held result r' before after

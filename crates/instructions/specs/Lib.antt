@@ -1,4 +1,5 @@
 pub mod Core
+pub mod Does
 pub mod Effects
 pub mod Exec
 pub mod Moves

@@ -1,58 +1,45 @@
-ghost use Rattle.std.specs.Prelude.{length};
-ghost use Rattle.instructions.specs.Core.{Sound};
-ghost use Rattle.instructions.specs.Effects.{Does};
+ghost use Rattle.instructions.specs.Does.{Does};
 ghost use Rattle.instructions.specs.Stack.{jumps, branches, calls, returns};
 
 use crate::effect::Effect;
 use crate::place::cells;
-use crate::registers::Registers;
+use crate::processor::Processor;
 use program::MachineCause;
 
-pub(crate) fn jump(to: i32, r: &mut Registers, memory: &[i32]) -> Result<Effect, MachineCause>
-    requires { Sound r.old (length memory.now) }
-    ensures { Does (jumps to) r.old memory.now result r.new memory.now }
-{
-    r.pc = to;
-    Ok(Effect::Done)
-}
-
-// Goes on at `to` where the top cell, as true or false, is `when`.
-pub(crate) fn branch(
-    when: bool,
-    to: i32,
-    r: &mut Registers,
-    memory: &[i32],
-) -> Result<Effect, MachineCause>
-    requires { Sound r.old (length memory.now) }
-    ensures { Does (branches when to) r.old memory.now result r.new memory.now }
-{
-    if (r.take(memory)? != 0) == when {
-        r.pc = to;
+impl<'a> Processor<'a> {
+    pub(crate) fn jump(&mut self, to: i32) -> Result<Effect, MachineCause>
+        ensures { Does (jumps to) self.old self.new result }
+    {
+        self.registers.pc = to;
+        Ok(Effect::Done)
     }
-    Ok(Effect::Done)
-}
 
-pub(crate) fn call(r: &mut Registers, memory: &mut [i32]) -> Result<Effect, MachineCause>
-    requires { Sound r.old (length memory.old) }
-    ensures { Does calls r.old memory.old result r.new memory.new }
-{
-    let to = r.top(memory)?;
-    memory[r.sp] = r.pc;
-    r.pc = to;
-    Ok(Effect::Done)
-}
+    // Goes on at `to` where the top cell, as true or false, is `when`.
+    pub(crate) fn branch(&mut self, when: bool, to: i32) -> Result<Effect, MachineCause>
+        ensures { Does (branches when to) self.old self.new result }
+    {
+        if (self.take()? != 0) == when {
+            self.registers.pc = to;
+        }
+        Ok(Effect::Done)
+    }
 
-pub(crate) fn return_from(
-    count: i32,
-    r: &mut Registers,
-    memory: &[i32],
-) -> Result<Effect, MachineCause>
-    requires { Sound r.old (length memory.now) }
-    ensures { Does (returns count) r.old memory.now result r.new memory.now }
-{
-    let count = cells(count)? + 1;
-    r.holds(count, memory)?;
-    r.pc = memory[r.sp];
-    r.sp += count;
-    Ok(Effect::Done)
+    pub(crate) fn call(&mut self) -> Result<Effect, MachineCause>
+        ensures { Does calls self.old self.new result }
+    {
+        let to = self.top()?;
+        self.memory[self.registers.sp] = self.registers.pc;
+        self.registers.pc = to;
+        Ok(Effect::Done)
+    }
+
+    pub(crate) fn return_from(&mut self, count: i32) -> Result<Effect, MachineCause>
+        ensures { Does (returns count) self.old self.new result }
+    {
+        let count = cells(count)? + 1;
+        self.holds(count)?;
+        self.registers.pc = self.memory[self.registers.sp];
+        self.registers.sp += count;
+        Ok(Effect::Done)
+    }
 }

@@ -1,16 +1,85 @@
-ghost use Rattle.std.specs.Prelude.{◌≡◌, length};
+ghost use Rattle.std.specs.Prelude.{◌≡◌, ◌+◌, ◌≤◌, length};
 ghost use Rattle.instructions.specs.Core.{Sound, core};
+ghost use Rattle.instructions.specs.Does.{Does};
 ghost use Rattle.instructions.specs.Effects.{left, Held};
 ghost use Rattle.instructions.specs.Exec.{exec};
+ghost use Rattle.instructions.specs.Moves.{pushed};
 
 use crate::effect::{Effect, Text};
 use crate::layout::Layout;
+use crate::processor::Processor;
 use crate::registers::Registers;
-use crate::{control, shows, special, stack, variables};
 use arithmetic::{Binary, Unary};
 use isa::Opcode;
 use program::MachineCause;
 
+impl<'a> Processor<'a> {
+    // Stays: one match over a closed enum; no table of functions or closures may be made and handed out.
+    fn execute(
+        &mut self,
+        layout: Layout,
+        at: i32,
+        op: Opcode,
+        argument: i32,
+    ) -> Result<Effect, MachineCause>
+        ensures { Does (exec layout at op argument) self.old self.new result }
+    {
+        match op {
+            Opcode::Push => self.push(argument),
+            Opcode::Add => self.join(Binary::Add),
+            Opcode::Sub => self.join(Binary::Sub),
+            Opcode::Mul => self.join(Binary::Mul),
+            Opcode::Div => self.join(Binary::Div),
+            Opcode::Mod => self.join(Binary::Mod),
+            Opcode::Neg => self.turn(Unary::Neg),
+            Opcode::And => self.join(Binary::And),
+            Opcode::Or => self.join(Binary::Or),
+            Opcode::Not => self.turn(Unary::Not),
+            Opcode::Eq => self.join(Binary::Eq),
+            Opcode::Ne => self.join(Binary::Ne),
+            Opcode::Lt => self.join(Binary::Lt),
+            Opcode::Gt => self.join(Binary::Gt),
+            Opcode::Le => self.join(Binary::Le),
+            Opcode::Ge => self.join(Binary::Ge),
+            Opcode::Dup => self.duplicate(),
+            Opcode::Pop => self.pop(),
+            Opcode::Swap => self.swap(),
+            Opcode::Jump => self.jump(argument),
+            Opcode::Bf => self.branch(false, argument),
+            Opcode::Bt => self.branch(true, argument),
+            Opcode::Nop => Ok(Effect::Done),
+            Opcode::Read => self.ask(),
+            Opcode::Bprint => self.show_flag(),
+            Opcode::Cprint => self.show_letter(),
+            Opcode::Iprint => self.show_number(),
+            Opcode::Sprint => self.show_string(layout, at),
+            Opcode::Prnln => Ok(Effect::Show(Text::Byte(10))),
+            Opcode::Load => self.load(argument),
+            Opcode::Store => self.store(argument),
+            Opcode::Loadref => self.load_reference(layout, argument),
+            Opcode::Storeref => self.store_reference(layout, argument),
+            Opcode::Deref => self.load_reference(layout, 0),
+            Opcode::Call => self.call(),
+            Opcode::Loadfp => self.push(self.registers.fp),
+            // Stays: `as`, since no i32 is From a usize, and TryFrom would answer an error that cannot come.
+            Opcode::Loadsp => self.push(self.registers.sp as i32 - 1),
+            Opcode::Storefp => self.store_fp(),
+            Opcode::Rmem => self.reserve(argument),
+            Opcode::Fmem => self.release(argument),
+            Opcode::Ret => self.return_from(argument),
+            Opcode::Halt => Ok(Effect::Halt),
+            Opcode::Loadpc => self.push(at),
+            Opcode::Storepc => self.store_pc(),
+            Opcode::Storesp => self.store_sp(),
+            Opcode::Loadhp => self.push(self.registers.hp),
+            Opcode::Storehp => self.store_hp(),
+            Opcode::Loadhl => self.push(self.registers.limit as i32 - 1),
+            Opcode::Storehl => self.store_hl(layout),
+        }
+    }
+}
+
+// Does an instruction at an address with its argument cell, but for what it asks of the port; pc stands past it.
 pub fn execute(
     layout: Layout,
     at: i32,
@@ -24,55 +93,21 @@ pub fn execute(
     ensures sound { Sound r.new (length memory.old) }
     ensures held { Held result r.new memory.old memory.new }
 {
-    match op {
-        Opcode::Push => stack::push(argument, r, memory),
-        Opcode::Add => stack::join(Binary::Add, r, memory),
-        Opcode::Sub => stack::join(Binary::Sub, r, memory),
-        Opcode::Mul => stack::join(Binary::Mul, r, memory),
-        Opcode::Div => stack::join(Binary::Div, r, memory),
-        Opcode::Mod => stack::join(Binary::Mod, r, memory),
-        Opcode::Neg => stack::turn(Unary::Neg, r, memory),
-        Opcode::And => stack::join(Binary::And, r, memory),
-        Opcode::Or => stack::join(Binary::Or, r, memory),
-        Opcode::Not => stack::turn(Unary::Not, r, memory),
-        Opcode::Eq => stack::join(Binary::Eq, r, memory),
-        Opcode::Ne => stack::join(Binary::Ne, r, memory),
-        Opcode::Lt => stack::join(Binary::Lt, r, memory),
-        Opcode::Gt => stack::join(Binary::Gt, r, memory),
-        Opcode::Le => stack::join(Binary::Le, r, memory),
-        Opcode::Ge => stack::join(Binary::Ge, r, memory),
-        Opcode::Dup => stack::duplicate(r, memory),
-        Opcode::Pop => stack::pop(r, memory),
-        Opcode::Swap => stack::swap(r, memory),
-        Opcode::Jump => control::jump(argument, r, memory),
-        Opcode::Bf => control::branch(false, argument, r, memory),
-        Opcode::Bt => control::branch(true, argument, r, memory),
-        Opcode::Nop => Ok(Effect::Done),
-        Opcode::Read => stack::ask(r, memory),
-        Opcode::Bprint => shows::show_flag(r, memory),
-        Opcode::Cprint => shows::show_letter(r, memory),
-        Opcode::Iprint => shows::show_number(r, memory),
-        Opcode::Sprint => shows::show_string(layout, at, r, memory),
-        Opcode::Prnln => Ok(Effect::Show(Text::Byte(10))),
-        Opcode::Load => variables::load(argument, r, memory),
-        Opcode::Store => variables::store(argument, r, memory),
-        Opcode::Loadref => variables::load_reference(layout, argument, r, memory),
-        Opcode::Storeref => variables::store_reference(layout, argument, r, memory),
-        Opcode::Deref => variables::load_reference(layout, 0, r, memory),
-        Opcode::Call => control::call(r, memory),
-        Opcode::Loadfp => stack::push(r.fp, r, memory),
-        Opcode::Loadsp => stack::push(r.sp as i32 - 1, r, memory),
-        Opcode::Storefp => special::store_fp(r, memory),
-        Opcode::Rmem => stack::reserve(argument, r, memory),
-        Opcode::Fmem => stack::release(argument, r, memory),
-        Opcode::Ret => control::return_from(argument, r, memory),
-        Opcode::Halt => Ok(Effect::Halt),
-        Opcode::Loadpc => stack::push(at, r, memory),
-        Opcode::Storepc => special::store_pc(r, memory),
-        Opcode::Storesp => special::store_sp(r, memory),
-        Opcode::Loadhp => stack::push(r.hp, r, memory),
-        Opcode::Storehp => special::store_hp(r, memory),
-        Opcode::Loadhl => stack::push(r.limit as i32 - 1, r, memory),
-        Opcode::Storehl => special::store_hl(layout, r, memory),
-    }
+    let mut processor = Processor {
+        registers: *r,
+        memory,
+    };
+    let result = processor.execute(layout, at, op, argument);
+    *r = processor.registers;
+    result
+}
+
+// Pushes x where there is room for it.
+pub fn put(x: i32, r: &mut Registers, memory: &mut [i32])
+    requires { (Sound r.old (length memory.old)) × (r.old.limit + 1 ≤ r.old.sp) }
+    ensures after { core r.new memory.new ≡ pushed x (core r.old memory.old) }
+    ensures sound { Sound r.new (length memory.old) }
+{
+    r.sp -= 1;
+    memory[r.sp] = x;
 }

@@ -1,7 +1,6 @@
 ghost use Rattle.std.specs.Prelude.{◌≡◌, ◌≤◌, pos, ◌+ℤ◌, ◌<ℤ◌, MatchResult};
-ghost use Rattle.instructions.specs.Tests.{placed, referred, lettered};
+ghost use Rattle.instructions.specs.Tests.{placed, lettered};
 
-use crate::layout::Layout;
 use program::MachineCause;
 
 // The address base + offset, if it is from low and below high.
@@ -19,28 +18,6 @@ pub(crate) fn place(
         .and_then(|address| usize::try_from(address).ok())
         .filter(|address| (low..high).contains(address))
         .ok_or(cause)
-}
-
-// The address that a reference and its offset give.
-pub(crate) fn refer(
-    layout: Layout,
-    limit: usize,
-    reference: i32,
-    offset: i32,
-) -> Result<usize, MachineCause>
-    requires { limit ≤ 65536 }
-    ensures { result ≡ referred layout limit reference offset }
-{
-    if reference == 0 {
-        return Err(MachineCause::NullReference);
-    }
-    place(
-        MachineCause::ReferenceRange,
-        reference,
-        offset,
-        layout.code,
-        limit,
-    )
 }
 
 // The byte that a cell holds.

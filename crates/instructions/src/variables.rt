@@ -1,68 +1,53 @@
-ghost use Rattle.std.specs.Prelude.{length};
-ghost use Rattle.instructions.specs.Core.{Sound};
-ghost use Rattle.instructions.specs.Effects.{Does};
+ghost use Rattle.instructions.specs.Does.{Does};
 ghost use Rattle.instructions.specs.Stack.{loads, stores, fetches, assigns};
 
 use crate::effect::Effect;
 use crate::layout::Layout;
-use crate::place::{place, refer};
-use crate::registers::Registers;
-use crate::stack::push;
+use crate::processor::Processor;
 use program::MachineCause;
 
-pub(crate) fn load(
-    offset: i32,
-    r: &mut Registers,
-    memory: &mut [i32],
-) -> Result<Effect, MachineCause>
-    requires { Sound r.old (length memory.old) }
-    ensures { Does (loads offset) r.old memory.old result r.new memory.new }
-{
-    let address = r.variable(offset, memory)?;
-    push(memory[address], r, memory)
-}
+impl<'a> Processor<'a> {
+    pub(crate) fn load(&mut self, offset: i32) -> Result<Effect, MachineCause>
+        ensures { Does (loads offset) self.old self.new result }
+    {
+        let address = self.variable(offset)?;
+        let value = self.memory[address];
+        self.push(value)
+    }
 
-pub(crate) fn store(
-    offset: i32,
-    r: &mut Registers,
-    memory: &mut [i32],
-) -> Result<Effect, MachineCause>
-    requires { Sound r.old (length memory.old) }
-    ensures { Does (stores offset) r.old memory.old result r.new memory.new }
-{
-    let value = r.top(memory)?;
-    let address = r.variable(offset, memory)?;
-    memory[address] = value;
-    r.sp += 1;
-    Ok(Effect::Done)
-}
+    pub(crate) fn store(&mut self, offset: i32) -> Result<Effect, MachineCause>
+        ensures { Does (stores offset) self.old self.new result }
+    {
+        let value = self.top()?;
+        let address = self.variable(offset)?;
+        self.memory[address] = value;
+        self.registers.sp += 1;
+        Ok(Effect::Done)
+    }
 
-pub(crate) fn load_reference(
-    layout: Layout,
-    offset: i32,
-    r: &Registers,
-    memory: &mut [i32],
-) -> Result<Effect, MachineCause>
-    requires { Sound r.now (length memory.old) }
-    ensures { Does (fetches layout offset) r.now memory.old result r.now memory.new }
-{
-    let address = refer(layout, r.limit, r.top(memory)?, offset)?;
-    memory[r.sp] = memory[address];
-    Ok(Effect::Done)
-}
+    pub(crate) fn load_reference(
+        &mut self,
+        layout: Layout,
+        offset: i32,
+    ) -> Result<Effect, MachineCause>
+        ensures { Does (fetches layout offset) self.old self.new result }
+    {
+        let address = self.refer(layout, self.top()?, offset)?;
+        self.memory[self.registers.sp] = self.memory[address];
+        Ok(Effect::Done)
+    }
 
-pub(crate) fn store_reference(
-    layout: Layout,
-    offset: i32,
-    r: &mut Registers,
-    memory: &mut [i32],
-) -> Result<Effect, MachineCause>
-    requires { Sound r.old (length memory.old) }
-    ensures { Does (assigns layout offset) r.old memory.old result r.new memory.new }
-{
-    let (value, reference) = r.pair(memory)?;
-    let address = refer(layout, r.limit, reference, offset)?;
-    memory[address] = value;
-    r.sp += 2;
-    Ok(Effect::Done)
+    pub(crate) fn store_reference(
+        &mut self,
+        layout: Layout,
+        offset: i32,
+    ) -> Result<Effect, MachineCause>
+        ensures { Does (assigns layout offset) self.old self.new result }
+    {
+        let (value, reference) = self.pair()?;
+        let address = self.refer(layout, reference, offset)?;
+        self.memory[address] = value;
+        self.registers.sp += 2;
+        Ok(Effect::Done)
+    }
 }

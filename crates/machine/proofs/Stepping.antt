@@ -1,19 +1,17 @@
 -- One step, and a run one step on.
-use Rattle.std.proofs.Common.{◌≡◌, ℕ, suc, ◌+◌, List, take, ℤ, Option, sym, refl, ap, ◌∙◌, add-zero}
+use Rattle.std.proofs.Common.{◌≡◌, ℕ, suc, ◌+◌, List, ℤ, sym, refl, ap, ◌∙◌, add-zero}
 use Rattle.machine.specs.declared.outcome.Outcome.{Outcome}
 use Rattle.machine.specs.declared.outcome.Outcome.TheVariants.{Spent, Halted, Reading, Space, Fault}
 use Rattle.machine.specs.Run.{Ran, runs, ran, then}
 use Rattle.machine.specs.Steps.{ended_by, last}
-use Rattle.machine.specs.declared.fetch.Fetched.{Fetched}
 use Rattle.instructions.specs.declared.registers.Registers.{Registers}
 use Rattle.instructions.specs.declared.effect.Effect.{Effect}
 use Rattle.instructions.specs.declared.effect.Effect.TheVariants.{Done, Halt, Take, Show, Spell}
-use Rattle.instructions.specs.Core.{Core, Next, core}
+use Rattle.instructions.specs.Core.{Core, core}
 use Rattle.instructions.specs.declared.layout.Layout.{Layout}
 use Rattle.instructions.specs.Effects.{asks, Unwritten}
-use Rattle.machine.specs.Fetch.{fetched}
 use Rattle.machine.specs.Console.{Console}
-use Rattle.machine.specs.Step.{Stepped, step, does, performed, answered}
+use Rattle.machine.specs.Step.{Stepped, step, answered}
 
 -- what has not written leaves memory as it was
 pub answered_held : (e : Effect) (to r : Registers) (m m' : List ℤ) (w : Console) → Unwritten e m m'

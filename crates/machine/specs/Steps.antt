@@ -28,6 +28,6 @@ step_left (Ok u) c w = moved c w
 step_left (Err o) c w = ended_by o c w
 
 -- all the bytes are shown; or there is too little space, and none is
-abbrev pub Printed : {U : Type 0} → List ℕ → Console → Result U Outcome → Console → Type 0
+abbrev pub Printed : {U E : Type 0} → List ℕ → Console → Result U E → Console → Type 0
 Printed bs w (Ok u) w' = (length bs ≤ w.space) × (w' ≡ showing bs w)
-Printed bs w (Err o) w' = (w.space < length bs) × (o ≡ Space) × (w' ≡ w)
+Printed bs w (Err e) w' = (w.space < length bs) × (w' ≡ w)

