@@ -9,11 +9,14 @@ pub(crate) fn is_plain(byte: u8) -> bool
 }
 
 // May the byte begin a name?
-// Stays: a rule of the project asks for character literals and ranges for the bytes that begin a label.
+// Stays: a rule of the project asks for a match of character literals and ranges for the bytes that begin a label.
 pub(crate) fn starts_name(byte: u8) -> bool
     ensures { result ≡ starts byte }
 {
-    matches!(char::from(byte), 'a'..='z' | 'A'..='Z' | '_' | '$' | '@')
+    match char::from(byte) {
+        'a'..='z' | 'A'..='Z' | '_' | '$' | '@' => true,
+        _ => false,
+    }
 }
 
 // May the byte stand in a name?
