@@ -15,10 +15,7 @@ pub(crate) struct Input<'a> {
 fn is_dot(line: &[u8]) -> bool
     ensures { result ≡ is_dot_text line.now }
 {
-    match line {
-        [b'.'] => true,
-        _ => false,
-    }
+    matches!(line, [b'.'])
 }
 
 // The input cut at its first line `.`; without one, all of it is site text.

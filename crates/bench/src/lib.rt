@@ -4,8 +4,10 @@
 mod input;
 mod readings;
 mod reports;
+mod samples;
 mod shown;
 mod texts;
 
 pub use reports::report;
-pub use texts::{outcome_text, refusal_text};
+pub use samples::NET;
+pub use texts::{Ending, Refusal, outcome_text, refusal_text};

@@ -1,4 +1,4 @@
-use crate::quoting::write_bytes;
+use crate::quoting::Quoted;
 use bench::report;
 use std::alloc::Global;
 
@@ -74,8 +74,6 @@ pub(crate) const INPUTS: [BenchInput; 15] = [
 
 // What the bench reports.
 pub(crate) fn report_answer(heap: Global, input: &BenchInput) -> anyhow::Result<String> {
-    let mut out = String::new(heap);
     let answer = report(heap, input.bytes)?;
-    write_bytes(&mut out, &answer)?;
-    Ok(out)
+    Ok(format!(in heap; "{}", Quoted(&answer))?)
 }
