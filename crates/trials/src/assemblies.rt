@@ -202,6 +202,7 @@ pub(crate) fn write_refusal(
 }
 
 // The counts of a program, as `n 32 C 24 D 0 H 0, labels 1, units 1`.
+#[derive(Clone, Copy)]
 pub(crate) struct Tally(pub Counts);
 
 impl fmt::Display for Tally {

@@ -1,6 +1,7 @@
 use std::fmt;
 
 // Bytes as text: byte 10 is written as `|`, and any other byte that is no ASCII letter, digit or sign as `<number>`.
+#[derive(Clone, Copy)]
 pub(crate) struct Quoted<'a>(pub &'a [u8]);
 
 impl fmt::Display for Quoted<'_> {
