@@ -7,9 +7,7 @@ use std::alloc::{AllocError, Global};
 pub(crate) fn shown_bytes<P: Port>(heap: Global, port: &P) -> Result<Vec<u8>, AllocError>
     ensures { IfOk result (λ v. v.items ≡ (P.meaning port.now).shown) }
 {
-    let mut bytes = Vec::new(heap);
-    while let Some(byte) = port.shown_at(bytes.len()) {
-        bytes.push(byte)?;
-    }
-    Ok(bytes)
+    (0..port.shown())
+        .filter_map(|place| port.shown_at(place))
+        .collect(heap)
 }
