@@ -1,8 +1,10 @@
 ghost use Rattle.std.specs.Prelude.{◌≡◌, ℕ, ◌<◌, ◌≤◌, List, [], ◌∷◌, length, drop, Some, None, MatchOption};
 ghost use Rattle.syntax.specs.Bytes.{front, after};
 ghost use Rattle.syntax.specs.Lines.{lines, line_at, not_end};
+ghost use Rattle.syntax.specs.Left.{lines_left};
+ghost use Rattle.std.specs.Iterator.{YieldsFirstRef, item_count};
 
-use crate::bytes::{Kind, run_len};
+use crate::bytes::run_len;
 
 // The first line of a text, without its byte 10, and the text after it.
 pub fn next_line<'a>(text: &'a [u8]) -> Option<(&'a [u8], &'a [u8])>
@@ -13,7 +15,7 @@ pub fn next_line<'a>(text: &'a [u8]) -> Option<(&'a [u8], &'a [u8])>
     if text.is_empty() {
         return None;
     }
-    let (line, rest) = text.split_at(run_len(text, Kind::Line));
+    let (line, rest) = text.split_at(run_len(text, |byte| byte != b'\n'));
     match rest {
         [_, after @ ..] => Some((line, after)),
         [] => Some((line, rest)),
@@ -24,17 +26,34 @@ pub fn next_line<'a>(text: &'a [u8]) -> Option<(&'a [u8], &'a [u8])>
 pub fn line_in<'a>(text: &'a [u8], number: usize) -> Option<&'a [u8]>
     ensures { MatchOption result (line_at number (lines text.now) ≡ None) (λ l. line_at number (lines text.now) ≡ Some l.now) }
 {
-    if number == 0 {
-        return None;
+    Lines::new(text).nth(number.checked_sub(1)?)
+}
+
+// The lines of a text, in order.
+#[derive(Drop)]
+pub struct Lines<'a> {
+    rest: &'a [u8],
+}
+
+impl<'a> Lines<'a> {
+    pub fn new(text: &'a [u8]) -> Lines<'a>
+        ensures lines { lines_left result ≡ lines text.now }
+        ensures count { length (lines_left result) ≤ length text.now }
+    {
+        Lines { rest: text }
     }
-    let mut rest = text;
-    let mut left = number;
-    while let Some((line, after)) = next_line(rest) {
-        if left == 1 {
-            return Some(line);
-        }
-        left -= 1;
-        rest = after;
+}
+
+impl<'a> Iterator for Lines<'a> {
+    type Item = &'a [u8];
+
+    ghost next_gives = { YieldsFirstRef lines_left };
+
+    ghost remaining = { item_count lines_left };
+
+    fn next(&mut self) -> Option<&'a [u8]> {
+        let (line, rest) = next_line(self.rest)?;
+        self.rest = rest;
+        Some(line)
     }
-    None
 }
