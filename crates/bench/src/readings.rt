@@ -4,7 +4,7 @@ ghost use Rattle.bench.specs.Input.{numbers};
 
 use decimal::read;
 use port::{Port, Reading};
-use syntax::next_line;
+use syntax::Lines;
 
 // Offers the numbers among the lines of a text to a port, as many as it has openings for. Other lines are skipped.
 pub(crate) fn offer_readings<P: Port>(text: &[u8], port: &mut P)
@@ -12,11 +12,9 @@ pub(crate) fn offer_readings<P: Port>(text: &[u8], port: &mut P)
     ensures shown { (P.meaning port.new).shown ≡ (P.meaning port.old).shown }
     ensures space { (P.meaning port.new).space ≡ (P.meaning port.old).space }
 {
-    let mut rest = text;
-    while let Some((line, after)) = next_line(rest) {
+    for line in Lines::new(text) {
         if let Ok(value) = read(line) {
             let _ = port.offer(Reading { value });
         }
-        rest = after;
     }
 }
