@@ -10,4 +10,5 @@ mod texts;
 
 pub use reports::report;
 pub use samples::NET;
+pub use shown::shown_bytes;
 pub use texts::{Ending, Refusal, outcome_text, refusal_text};

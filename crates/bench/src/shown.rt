@@ -4,7 +4,7 @@ use port::Port;
 use std::alloc::{AllocError, Global};
 
 // The bytes that a port shows, in order.
-pub(crate) fn shown_bytes<P: Port>(heap: Global, port: &P) -> Result<Vec<u8>, AllocError>
+pub fn shown_bytes<P: Port>(heap: Global, port: &P) -> Result<Vec<u8>, AllocError>
     ensures { IfOk result (λ v. v.items ≡ (P.meaning port.now).shown) }
 {
     (0..port.shown())

@@ -256,7 +256,7 @@ fn write_cells(out: &mut String, memory: &[i32]) -> anyhow::Result<()> {
     Ok(())
 }
 
-// What two texts assemble to: the counts, the cells and the slots, or the refusal and its line. What stood in memory
+// The name of two texts and what they assemble to: the counts, the cells and the slots, or the refusal and its line. What stood in memory
 // and slots before is gone after.
 pub(crate) fn text_answer(heap: Global, text: &TextPair) -> anyhow::Result<String> {
     let mut memory = [7; 32];
@@ -268,7 +268,7 @@ pub(crate) fn text_answer(heap: Global, text: &TextPair) -> anyhow::Result<Strin
         entry: 7,
         ..Unit::empty()
     }; 2];
-    let mut out = String::new(heap);
+    let mut out = format!(in heap; "{}: ", text.name)?;
     match assemble(
         text.site,
         text.library,

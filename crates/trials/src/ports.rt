@@ -34,12 +34,8 @@ fn write_shows<P: Port>(out: &mut String, port: &mut P) -> anyhow::Result<()> {
 // Takes what waits, and once more.
 fn write_takes<P: Port>(out: &mut String, port: &mut P) -> anyhow::Result<()> {
     out.push_str(" take")?;
-    for _ in 0..100 {
-        let Some(reading) = port.take() else {
-            break;
-        };
-        let value = reading.value;
-        write!(out, " {value}")?;
+    while let Some(reading) = port.take() {
+        write!(out, " {}", reading.value)?;
     }
     out.push_str(" none.")?;
     Ok(())

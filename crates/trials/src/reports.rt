@@ -72,8 +72,8 @@ pub(crate) const INPUTS: [BenchInput; 15] = [
     },
 ];
 
-// What the bench reports.
+// The name of an input, and what the bench reports of it.
 pub(crate) fn report_answer(heap: Global, input: &BenchInput) -> anyhow::Result<String> {
     let answer = report(heap, input.bytes)?;
-    Ok(format!(in heap; "{}", Quoted(&answer))?)
+    Ok(format!(in heap; "{}: {}", input.name, Quoted(&answer))?)
 }

@@ -1,6 +1,6 @@
 use crate::quoting::Quoted;
 use assembler::assemble;
-use bench::{NET, Refusal, outcome_text, refusal_text};
+use bench::{NET, Refusal, outcome_text, refusal_text, shown_bytes};
 use machine::{Machine, bench_start, run};
 use port::{BoardPort, Port, Reading, ServicePort};
 use program::{Assembled, Label, Unit};
@@ -432,13 +432,8 @@ pub(crate) const TRIALS: [Trial; 66] = [
 
 // Writes the bytes that a port shows, in quotes.
 fn write_shown<P: Port>(out: &mut String, port: &P) -> anyhow::Result<()> {
-    out.push_str(" shows \"")?;
-    for place in 0..port.shown() {
-        if let Some(byte) = port.shown_at(place) {
-            write!(out, "{}", Quoted(&[byte]))?;
-        }
-    }
-    out.push('"')?;
+    let bytes = shown_bytes(*out.allocator(), port)?;
+    write!(out, " shows \"{}\"", Quoted(&bytes))?;
     Ok(())
 }
 
@@ -522,14 +517,16 @@ fn answer_over<P: Port>(heap: Global, trial: &Trial, port: &mut P) -> anyhow::Re
     Ok(out)
 }
 
-// What a trial gives over the board port, and whether a service port of its size gives the same.
+// The name of a trial, what it gives over the board port, and whether a service port of its size gives the same.
 pub(crate) fn trial_answer(heap: Global, trial: &Trial) -> anyhow::Result<String> {
-    let mut answer = answer_over(heap, trial, &mut BoardPort::new())?;
+    let name = trial.name;
+    let answer = answer_over(heap, trial, &mut BoardPort::new())?;
     let mut places = [0; 192];
     let mut bytes = [0; 64];
     let other = answer_over(heap, trial, &mut ServicePort::new(&mut places, &mut bytes))?;
+    let mut out = format!(in heap; "{name}:{answer}")?;
     if answer.as_str() != other.as_str() {
-        write!(answer, " but over the service port{other}")?;
+        write!(out, " but over the service port{other}")?;
     }
-    Ok(answer)
+    Ok(out)
 }

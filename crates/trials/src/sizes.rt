@@ -68,13 +68,13 @@ fn write_units(out: &mut String, times: usize) -> anyhow::Result<()> {
 }
 
 // The texts and the memory of a size.
-fn job_of(heap: Global, size: Size) -> anyhow::Result<Job> {
+fn job_of(heap: Global, size: &Size) -> anyhow::Result<Job> {
     let mut job = Job {
         site: String::new(heap),
         library: String::new(heap),
         cells: 1024,
     };
-    match size {
+    match *size {
         Size::Memory(n) => job.cells = n,
         Size::Site(n) => job.site = "\n".repeat(heap, n)?,
         Size::Library(n) => job.library = "\n".repeat(heap, n)?,
@@ -86,7 +86,7 @@ fn job_of(heap: Global, size: Size) -> anyhow::Result<Job> {
 }
 
 // What texts and a memory of a size assemble to, with slots for 600 labels and 70 units.
-pub(crate) fn size_answer(heap: Global, size: Size) -> anyhow::Result<String> {
+pub(crate) fn size_answer(heap: Global, size: &Size) -> anyhow::Result<String> {
     let mut out = format!(in heap; "{size}: ")?;
     let job = job_of(heap, size)?;
     let mut memory = vec![in heap; 0; job.cells]?;

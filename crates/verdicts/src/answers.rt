@@ -32,15 +32,17 @@ fn apply(changes: &[Change], memory: &mut [i32], units: &mut [Unit]) {
 
 // Writes the places that are set, each with its body and depth, and how many are as before.
 fn write_plan(out: &mut String, plan: &[Option<Planned>]) -> anyhow::Result<()> {
-    let mut stale: usize = 0;
     out.push_str("; plan")?;
     for (address, place) in plan.iter().enumerate() {
         match *place {
-            Some(Planned { body: 9, depth: 9 }) => stale = stale.wrapping_add(1),
+            Some(Planned { body: 9, depth: 9 }) | None => {}
             Some(Planned { body, depth }) => write!(out, " {address}:{body}/{depth}")?,
-            None => {}
         }
     }
+    let stale = plan
+        .iter()
+        .filter(|place| matches!(**place, Some(Planned { body: 9, depth: 9 })))
+        .count();
     write!(out, ", {stale} as before")?;
     Ok(())
 }
