@@ -85,7 +85,7 @@ fn job_of(heap: Global, size: &Size) -> anyhow::Result<Job> {
     Ok(job)
 }
 
-// What texts and a memory of a size assemble to, with slots for 600 labels and 70 units.
+// A size, and what texts and a memory of it assemble to, with slots for 600 labels and 70 units.
 pub(crate) fn size_answer(heap: Global, size: &Size) -> anyhow::Result<String> {
     let mut out = format!(in heap; "{size}: ")?;
     let job = job_of(heap, size)?;
