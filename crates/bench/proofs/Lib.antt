@@ -1,4 +1,5 @@
 pub mod Assemblies
 pub mod Cutting
+pub mod Finding
 pub mod Offering
 pub mod Wording

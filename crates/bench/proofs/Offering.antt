@@ -1,9 +1,7 @@
 -- Numbers that are offered line by line.
-use Rattle.std.proofs.Common.{◌≡◌, ℕ, List, [], ◌∷◌, ◌++◌, take, ℤ, Ok, Err, Result, sym, refl, ap, ◌∙◌, append_assoc, add-one, arith}
-use Rattle.std.proofs.lemmas.List.{append-nil, take_all}
+use Rattle.std.proofs.Common.{◌≡◌, ℕ, List, [], ◌∷◌, ◌++◌, take, ℤ, Ok, Err, Result, sym, refl, ap, ◌∙◌, append_assoc, add-one}
 use Rattle.program.specs.declared.fault.Fault.{Fault}
 use Rattle.decimal.specs.Reading.{read_as}
-use Rattle.decimal.specs.declared.reading.NumberError.{NumberError}
 use Rattle.port.specs.declared.reading.Reading.{Reading}
 use Rattle.port.specs.Meaning.{Meaning, meant, Offered}
 use Rattle.machine.specs.Console.{Console, console}
@@ -25,17 +23,9 @@ pub offered_shown : {U : Type 0} (m m' : Meaning) (x : Reading) (r : Result U Fa
 offered_shown m m' x (Ok u) h = (h.1, h.3)
 offered_shown m m' x (Err f) h = (ap (λ (n : Meaning). n.shown) h.2, ap (λ (n : Meaning). n.space) h.2)
 
--- a line that is a number, and one that is none
+-- a line that is a number
 pub numbers_ok : (l : List ℕ) (ls : List (List ℕ)) (z : ℤ) → Ok z ≡ read_as l → numbers (l ∷ ls) ≡ record { value = z } ∷ numbers ls
 numbers_ok l ls z e = rw (← e, numbers) refl
-
-pub numbers_err : (l : List ℕ) (ls : List (List ℕ)) (x : NumberError) → Err x ≡ read_as l → numbers (l ∷ ls) ≡ numbers ls
-numbers_err l ls x e = rw (← e, numbers) refl
-
--- nothing is left to offer
-pub offered_all : (ws : List Reading) (n : ℕ) (ls : List (List ℕ)) → ls ≡ [] → ws ++ take n (numbers ls) ≡ ws
-offered_all ws n ls e =
-    ap (λ l. ws ++ take n (numbers l)) e ∙ ap (λ l. ws ++ l) (take_all n [] (omega arith)) ∙ append-nil ws
 
 -- an empty port of 64 places and 4,096 bytes, to which readings were offered
 pub offered_new : (xs : List Reading) (m m' : Meaning) → m ≡ meant [] [] 64 4096 → m'.waiting ≡ m.waiting ++ take m.openings xs → m'.shown ≡ m.shown → m'.space ≡ m.space → console m' ≡ offered xs

@@ -1,5 +1,6 @@
 -- What the bench reads: the site text, then a line `.`, then readings, one a line.
-use Rattle.std.specs.Prelude.{ℕ, ◌+◌, Bool, true, false, List, [], ◌∷◌, length, take, Ok, Err, ◌==◌}
+use Rattle.std.specs.Prelude.{ℕ, ◌+◌, Bool, false, List, [], ◌∷◌, length, take, Ok, Err, ◌==◌}
+use Rattle.std.specs.List.{before_first, after_first, sum_by}
 use Rattle.decimal.specs.Reading.{read_as}
 use Rattle.port.specs.declared.reading.Reading.{Reading}
 use Rattle.syntax.specs.Lines.{lines}
@@ -12,18 +13,15 @@ is_dot_text (c ∷ d ∷ cs) = false
 
 -- the lines before the first such line
 abbrev pub before : List (List ℕ) → List (List ℕ)
-before [] = []
-before (l ∷ ls) = elim (is_dot_text l) [ true ↦ [] | false ↦ l ∷ before ls ]
+before ls = before_first is_dot_text ls
 
 -- the lines after it
 abbrev pub beyond : List (List ℕ) → List (List ℕ)
-beyond [] = []
-beyond (l ∷ ls) = elim (is_dot_text l) [ true ↦ ls | false ↦ beyond ls ]
+beyond ls = after_first is_dot_text ls
 
 -- how many bytes lines take, each with its byte 10
 abbrev pub extent : List (List ℕ) → ℕ
-extent [] = 0
-extent (l ∷ ls) = length l + 1 + extent ls
+extent ls = sum_by (λ l. length l + 1) ls
 
 -- the site text: the bytes of the lines before
 abbrev pub site_of : List ℕ → List ℕ

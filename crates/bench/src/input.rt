@@ -1,43 +1,33 @@
 ghost use Rattle.std.specs.Prelude.{◌≡◌};
+ghost use Rattle.syntax.specs.Left.{lines_left};
 ghost use Rattle.syntax.specs.Lines.{lines};
 ghost use Rattle.bench.specs.Input.{is_dot_text, site_of, beyond};
 
-use syntax::next_line;
+use syntax::Lines;
 
-// What the bench reads: the site text, and the lines after the line `.`.
-#[derive(Clone, Copy)]
-pub(crate) struct Input<'a> {
-    pub site: &'a [u8],
-    pub readings: &'a [u8],
-}
-
-// Is the line one `.`?
+// Is the line one `.`? The first such line ends the site text, and readings follow it.
 fn is_dot(line: &[u8]) -> bool
     ensures { result ≡ is_dot_text line.now }
 {
-    match line {
-        [b'.'] => true,
-        _ => false,
-    }
+    matches!(line, [b'.'])
 }
 
-// The input cut at its first line `.`; without one, all of it is site text.
-pub(crate) fn split<'a>(input: &'a [u8]) -> Input<'a>
-    ensures site { result.site.now ≡ site_of input.now }
-    ensures readings { lines result.readings.now ≡ beyond (lines input.now) }
+// The input before its first line `.`; without one, all of it.
+pub(crate) fn site_text(input: &[u8]) -> &[u8]
+    ensures { result.now ≡ site_of input.now }
 {
-    let mut rest = input;
-    while let Some((line, after)) = next_line(rest) {
-        if is_dot(line) {
-            return Input {
-                site: &input[0..input.len() - rest.len()],
-                readings: after,
-            };
-        }
-        rest = after;
-    }
-    Input {
-        site: input,
-        readings: rest,
-    }
+    let extent: usize = Lines::new(input)
+        .take_while(|line| !is_dot(line))
+        .map(|line| line.len() + 1)
+        .sum();
+    &input[..extent.min(input.len())]
+}
+
+// The lines after the first line `.`; without one, none.
+pub(crate) fn reading_lines(input: &[u8]) -> Lines<'_>
+    ensures { lines_left result ≡ beyond (lines input.now) }
+{
+    let mut lines = Lines::new(input);
+    let _ = lines.find(|line| is_dot(line));
+    lines
 }

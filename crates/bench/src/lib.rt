@@ -4,8 +4,11 @@
 mod input;
 mod readings;
 mod reports;
+mod samples;
 mod shown;
 mod texts;
 
 pub use reports::report;
-pub use texts::{outcome_text, refusal_text};
+pub use samples::NET;
+pub use shown::shown_bytes;
+pub use texts::{Ending, Refusal, outcome_text, refusal_text};

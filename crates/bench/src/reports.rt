@@ -4,10 +4,9 @@ ghost use Rattle.machine.specs.Console.{console};
 ghost use Rattle.bench.specs.Bench.{bench_report};
 ghost use Rattle.bench.specs.Output.{ran_report, refused_report};
 ghost use Rattle.bench.specs.Trial.{trial as trial_of, offered};
-ghost use Rattle.bench.specs.Input.{numbers};
-ghost use Rattle.syntax.specs.Lines.{lines};
+ghost use Rattle.bench.specs.Input.{readings_of};
 
-use crate::input::{Input, split};
+use crate::input::site_text;
 use crate::readings::offer_readings;
 use crate::shown::shown_bytes;
 use crate::texts::{outcome_text, refusal_text};
@@ -72,20 +71,20 @@ fn trial<P: Port>(
     }
 }
 
-// The report of an assembled program, run on a service port to which the numbers among the lines were offered.
+// The report of an assembled program, run on a service port to which the readings of the input were offered.
 fn started(
     heap: Global,
     program: Assembled,
     memory: &mut [i32],
-    readings: &[u8],
+    input: &[u8],
 ) -> Result<Vec<u8>, AllocError>
     requires { length memory.old ≡ program.counts.cells }
-    ensures { IfOk result (λ v. v.items ≡ trial_of program.counts memory.old (offered (numbers (lines readings.now)))) }
+    ensures { IfOk result (λ v. v.items ≡ trial_of program.counts memory.old (offered (readings_of input.now))) }
 {
     let mut places = vec![in heap; 0; PLACES]?;
     let mut bytes = vec![in heap; 0; BYTES]?;
     let mut port = ServicePort::new(&mut places, &mut bytes);
-    offer_readings(readings, &mut port);
+    offer_readings(input, &mut port);
     trial(heap, program, memory, &mut port)
 }
 
@@ -93,13 +92,12 @@ fn started(
 pub fn report(heap: Global, input: &[u8]) -> Result<Vec<u8>, AllocError>
     ensures { IfOk result (λ v. v.items ≡ bench_report input.now) }
 {
-    let Input { site, readings } = split(input);
     let mut memory = vec![in heap; 0; CELLS]?;
     let mut labels = vec![in heap; Label::empty(); LABELS]?;
     let mut units = vec![in heap; Unit::empty(); UNITS]?;
     let cells = memory.as_mut_slice();
-    match assemble(site, &[], cells, &mut labels, &mut units) {
-        Ok(program) => started(heap, program, cells, readings),
+    match assemble(site_text(input), &[], cells, &mut labels, &mut units) {
+        Ok(program) => started(heap, program, cells, input),
         Err(fault) => refused(heap, fault),
     }
 }

@@ -4,12 +4,10 @@ use port::Port;
 use std::alloc::{AllocError, Global};
 
 // The bytes that a port shows, in order.
-pub(crate) fn shown_bytes<P: Port>(heap: Global, port: &P) -> Result<Vec<u8>, AllocError>
+pub fn shown_bytes<P: Port>(heap: Global, port: &P) -> Result<Vec<u8>, AllocError>
     ensures { IfOk result (λ v. v.items ≡ (P.meaning port.now).shown) }
 {
-    let mut bytes = Vec::new(heap);
-    while let Some(byte) = port.shown_at(bytes.len()) {
-        bytes.push(byte)?;
-    }
-    Ok(bytes)
+    (0..port.shown())
+        .filter_map(|place| port.shown_at(place))
+        .collect(heap)
 }

@@ -1,11 +1,12 @@
 -- Readings as text in places of 12 bytes: what is written is read again, and the other places stay.
-use Rattle.std.proofs.Common.{◌≡◌, ℕ, suc, ◌+◌, ◌-◌, ◌*◌, ◌/◌, ◌<◌, ◌≤◌, Bool, true, false, eqb, List, [], ◌∷◌, ◌++◌, length, get_or, take, drop, set, replicate, ℤ, sym, refl, ap, ◌∙◌, inl, inr, append_assoc, add-one, arith, w32, SFits}
-use lib.Seq.{paste}
+use Rattle.std.proofs.Common.{◌≡◌, ℕ, suc, ◌+◌, ◌-◌, ◌*◌, ◌/◌, ◌<◌, ◌≤◌, Bool, true, false, not, eqb, Option, List, [], ◌∷◌, ◌++◌, length, take, drop, replicate, ℤ, sym, refl, ap, ◌∙◌, inl, inr, append_assoc, add-one, arith, w32, SFits}
 use Rattle.std.specs.Fmt.{signed_decimal}
+use Rattle.std.specs.List.{position, position_or_len}
+use Rattle.std.specs.Option.{unwrap_or}
 use Rattle.std.proofs.lemmas.Fmt.{length_signed_le}
-use Rattle.std.proofs.lemmas.List.Edits.{paste_more, paste_all}
-use Rattle.std.proofs.lemmas.List.{drop_more, drop_all, take_all, take_more, append-nil, take_at, drop_at, take-take, drop-take, drop-drop, length-take-le, length-append, length-drop, length-replicate, drop-replicate}
-use Rattle.std.proofs.lemmas.Bool.{cases_lt, eq-eqb, ne_eqb}
+use Rattle.std.proofs.lemmas.List.Sums.{prefix_len-le-length}
+use Rattle.std.proofs.lemmas.List.{take_at, drop_at, take-take, drop-take, drop-drop, length-take-le, length-append, length-drop, length-replicate, drop-replicate}
+use Rattle.std.proofs.lemmas.Bool.{cases_lt}
 use Rattle.std.proofs.lemmas.Bool.Decides.{nat_tests}
 use Rattle.decimal.specs.Numbers.{only_digits, are_all_digits, is_numeral_text}
 use Rattle.decimal.specs.Reading.{read_as}
@@ -13,7 +14,6 @@ use Rattle.decimal.proofs.Inverse.{read_held, numeral_signed}
 use Rattle.port.specs.declared.reading.Reading.{Reading}
 use Rattle.port.specs.Place.{places_in, padded, placed, up_to_space, or_zero, place_reading, waiting_in}
 use Rattle.port.specs.Ring.{wrapped, queue}
-use Rattle.port.specs.Service.{Held, held}
 use Rattle.port.proofs.Rings.{queue_more, last_within}
 
 before_at_yes : (c : ℕ) (cs : List ℕ) → eqb c 32 ≡ true → up_to_space (c ∷ cs) ≡ []
@@ -22,17 +22,23 @@ before_at_yes c cs e = rw (e, up_to_space) refl
 before_at_no : (c : ℕ) (cs : List ℕ) → eqb c 32 ≡ false → up_to_space (c ∷ cs) ≡ c ∷ up_to_space cs
 before_at_no c cs e = rw (e, up_to_space) refl
 
-module _ (xs : List ℕ) (i : ℕ) where
-  pub before_yes : i < length xs → get_or xs i 0 ≡ 32 → up_to_space (drop i xs) ≡ []
-  before_yes h e = rw (drop_more xs i 0 h) (before_at_yes (get_or xs i 0) (drop (i + 1) xs) (eq-eqb _ _ e))
+-- the front that ends before the first space
+up_to_first : (xs : List ℕ) → take (position_or_len (λ c. eqb c 32) xs) xs ≡ up_to_space xs
+up_to_first [] = refl
+up_to_first (c ∷ cs) = go (eqb c 32) refl (up_to_first cs)
+  where
+    go : (b : Bool) → eqb c 32 ≡ b → take (position_or_len (λ d. eqb d 32) cs) cs ≡ up_to_space cs
+        → take (position_or_len (λ d. eqb d 32) (c ∷ cs)) (c ∷ cs) ≡ up_to_space (c ∷ cs)
+    go true e ih = rw e (sym (before_at_yes c cs e))
+    go false e ih =
+        let s : 1 + position_or_len (λ d. eqb d 32) cs ≡ suc (position_or_len (λ d. eqb d 32) cs) = omega arith in
+        rw (e, s) (ap (λ l. c ∷ l) ih ∙ sym (before_at_no c cs e))
 
-  pub before_more : i < length xs → (get_or xs i 0 ≡ 32 → ⊥)
-      → take i xs ++ up_to_space (drop i xs) ≡ take (i + 1) xs ++ up_to_space (drop (i + 1) xs)
-  before_more h e =
-      rw (drop_more xs i 0 h, before_at_no (get_or xs i 0) (drop (i + 1) xs) (ne_eqb _ _ e), take_more xs i 0 h, append_assoc) refl
-
-  pub before_all : length xs ≤ i → take i xs ++ up_to_space (drop i xs) ≡ xs
-  before_all h = rw (drop_all i xs h, take_all i xs h) (append-nil xs)
+pub up_to_position : (xs : List ℕ) (r : Option ℕ) (n : ℕ) → r ≡ position (λ c. eqb c 32) xs → n ≡ unwrap_or r (length xs) → take n xs ≡ up_to_space xs
+up_to_position xs r n e f =
+    let l = prefix_len-le-length (λ c. not (eqb c 32)) xs in
+    let g : n ≡ position_or_len (λ c. eqb c 32) xs = grind (arith, nat_tests) in
+    rw g (up_to_first xs)
 
 only_rest : (c : ℕ) (cs : List ℕ) → only_digits (c ∷ cs) ≡ true → only_digits cs ≡ true
 only_rest c cs h = grind (arith, nat_tests)
@@ -67,11 +73,8 @@ pub length_padded : (x : Reading) → SFits w32 x.value → length (padded x) �
 length_padded x f = let s = short x.value f in simp (length-append, length-replicate) (omega arith)
 
 -- a text over the front of 12 spaces
-spaces : (n : ℕ) → drop {A = ℕ} (n - 0) (replicate 12 32) ≡ replicate (12 - n) 32
-spaces n = let z : n - 0 ≡ n = omega arith in rw z (drop-replicate {X = ℕ} n 12 32)
-
-pub text_padded : (x : Reading) (a t : List ℕ) → a ≡ t → t ≡ signed_decimal x.value → a ++ drop (length t - 0) (replicate 12 32) ≡ padded x
-text_padded x a t e f = rw (e, f) (ap (λ l. signed_decimal x.value ++ l) (spaces (length (signed_decimal x.value))))
+pub text_padded : (x : Reading) (a t : List ℕ) → a ≡ t → t ≡ signed_decimal x.value → a ++ drop (length t) (replicate 12 32) ≡ padded x
+text_padded x a t e f = rw (e, f) (ap (λ l. signed_decimal x.value ++ l) (drop-replicate {X = ℕ} (length (signed_decimal x.value)) 12 32))
 
 -- what is written is read
 read_padded : (x : Reading) → SFits w32 x.value → or_zero (read_as (up_to_space (padded x))) ≡ x.value
@@ -125,20 +128,6 @@ module _ (p : List ℕ) (k : ℕ) (x : Reading) (fits : SFits w32 x.value) (with
         | inr h ↦ ap (λ l. reads (take 12 l)) (part_back (placed p k x) p (12 * j) (12 * k + 12) (omega arith) placed_back)
       ]
 
--- a place written over, byte by byte
-pub held_more : (p bytes d bytes₀ s : List ℕ) (first count written first₀ count₀ written₀ at i : ℕ) → at + i < length d → i < length s
-    → held p bytes first count written ≡ held (paste d at s i) bytes₀ first₀ count₀ written₀
-    → held (set p (at + i) (get_or s i 0)) bytes first count written ≡ held (paste d at s (i + 1)) bytes₀ first₀ count₀ written₀
-held_more p bytes d bytes₀ s first count written first₀ count₀ written₀ at i h l e =
-    ap (λ (o : Held). held (set o.places (at + i) (get_or s i 0)) o.bytes o.first o.count o.written) e
-    ∙ ap (λ q. held q bytes₀ first₀ count₀ written₀) (paste_more d at s i 0 h l)
-
-pub paste_placed : (d s : List ℕ) (k i : ℕ) (x : Reading) → SFits w32 x.value → s ≡ padded x → i ≡ 12 → paste d (12 * k) s i ≡ placed d k x
-paste_placed d s k i x f e n =
-    let l : length s ≡ 12 = ap length e ∙ length_padded x f in
-    paste_all d (12 * k) s i (n ∙ sym l) ∙ ap (λ m. take (12 * k) d ++ (s ++ drop (12 * k + m) d)) n
-    ∙ ap (λ t. take (12 * k) d ++ (t ++ drop (12 * k + 12) d)) e
-
 pub length_placed : (p : List ℕ) (k : ℕ) (x : Reading) → SFits w32 x.value → k < places_in p → length (placed p k x) ≡ length p
 length_placed p k x f h =
     let l = length_padded x f in
@@ -147,13 +136,14 @@ length_placed p k x f h =
     ∙ (let a = length-append (padded x) (drop (12 * k + 12) p) in let d = length-drop (12 * k + 12) p in omega arith)
 
 -- one more reading at the end of a ring of places
-pub places_more : (p : List ℕ) (x : Reading) (k count t : ℕ) → SFits w32 x.value → k < places_in p → count < places_in p
-    → t ≡ wrapped (places_in p) (k + count)
-    → waiting_in (placed p t x) k (count + 1) ≡ waiting_in p k count ++ x ∷ []
-places_more p x k count t f h s e =
+pub places_more : (p : List ℕ) (x : Reading) (k count t k' count' : ℕ) → SFits w32 x.value → k < places_in p → count < places_in p
+    → t ≡ wrapped (places_in p) (k + count) → k' ≡ k → count' ≡ count + 1
+    → waiting_in (placed p t x) k' count' ≡ waiting_in p k count ++ x ∷ []
+places_more p x k count t k' count' f h s e same more =
     let w : t < places_in p = rw e (last_within (places_in p) k count h s) in
     let i : 12 * t + 12 ≤ length p = omega arith in
-    ap (λ n. queue (place_reading (placed p t x)) (n / 12) k (count + 1)) (length_placed p t x f w)
-    ∙ ap (queue (place_reading (placed p t x)) (places_in p) k) (add-one count)
+    ap (λ n. queue (place_reading (placed p t x)) (n / 12) k' count') (length_placed p t x f w)
+    ∙ ap (λ n. queue (place_reading (placed p t x)) (places_in p) n count') same
+    ∙ ap (queue (place_reading (placed p t x)) (places_in p) k) (more ∙ add-one count)
     ∙ queue_more (place_reading p) (place_reading (placed p t x)) (places_in p) k count t h s e (place_other p t x f i)
     ∙ ap (λ y. queue (place_reading p) (places_in p) k count ++ y ∷ []) (place_same p t x f i)

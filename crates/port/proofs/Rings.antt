@@ -34,11 +34,13 @@ queue_more at new n k (suc count) t h s e same =
 pub last_within : (n k count : ℕ) → k < n → count < n → wrapped n (k + count) < n
 last_within n k count h s = grind (arith, nat_tests)
 
--- readings in a list, one more at the end
-pub list_more : (xs : List Reading) (x : Reading) (k count t : ℕ) → k < length xs → count < length xs → t ≡ wrapped (length xs) (k + count)
-    → queue (reading_at (set xs t x)) (length xs) k (count + 1) ≡ queue (reading_at xs) (length xs) k count ++ x ∷ []
-list_more xs x k count t h s e =
-    let w : t < length xs = rw e (last_within (length xs) k count h s) in
-    ap (queue (reading_at (set xs t x)) (length xs) k) (add-one count)
-    ∙ queue_more (reading_at xs) (reading_at (set xs t x)) (length xs) k count t h s e (λ j d. get_or-set_other xs t j x nothing d)
-    ∙ ap (λ y. queue (reading_at xs) (length xs) k count ++ y ∷ []) (get_or-set_same xs t x nothing w)
+-- readings in a list of n, one more at the end
+pub list_more : (xs : List Reading) (x : Reading) (n k count t k' count' : ℕ) → length xs ≡ n → k < n → count < n
+    → t ≡ wrapped n (k + count) → k' ≡ k → count' ≡ count + 1
+    → queue (reading_at (set xs t x)) n k' count' ≡ queue (reading_at xs) n k count ++ x ∷ []
+list_more xs x n k count t k' count' l h s e same more =
+    let w : t < length xs = rw (l, e) (last_within n k count h s) in
+    ap (λ m. queue (reading_at (set xs t x)) n m count') same
+    ∙ ap (queue (reading_at (set xs t x)) n k) (more ∙ add-one count)
+    ∙ queue_more (reading_at xs) (reading_at (set xs t x)) n k count t h s e (λ j d. get_or-set_other xs t j x nothing d)
+    ∙ ap (λ y. queue (reading_at xs) n k count ++ y ∷ []) (get_or-set_same xs t x nothing w)

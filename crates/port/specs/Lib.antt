@@ -1,4 +1,5 @@
 pub mod Board
+pub mod Bytes
 pub mod Meaning
 pub mod Place
 pub mod Ring

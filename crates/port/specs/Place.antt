@@ -1,6 +1,7 @@
 -- Readings as text in places of 12 bytes.
-use Rattle.std.specs.Prelude.{ℕ, ◌+◌, ◌-◌, ◌*◌, ◌/◌, true, false, List, [], ◌∷◌, ◌++◌, length, take, drop, replicate, ℤ, pos, Ok, Err, Result, ◌==◌}
+use Rattle.std.specs.Prelude.{ℕ, ◌+◌, ◌-◌, ◌*◌, ◌/◌, true, false, List, [], ◌∷◌, ◌++◌, length, take, drop, replicate, ℤ, pos, Result, ◌==◌}
 use Rattle.std.specs.Fmt.{signed_decimal}
+use Rattle.std.specs.Result.{result_unwrap_or}
 use Rattle.decimal.specs.Reading.{read_as}
 use Rattle.decimal.specs.declared.reading.NumberError.{NumberError}
 use Rattle.port.specs.declared.reading.Reading.{Reading}
@@ -25,8 +26,7 @@ up_to_space (c ∷ cs) = elim (c == 32) [ true ↦ [] | false ↦ c ∷ up_to_sp
 
 -- the number that was read, or 0
 abbrev pub or_zero : Result ℤ NumberError → ℤ
-or_zero (Ok z) = z
-or_zero (Err e) = pos 0
+or_zero r = result_unwrap_or r (pos 0)
 
 -- the reading at place k: the number before the first space
 abbrev pub place_reading : List ℕ → ℕ → Reading

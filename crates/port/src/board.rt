@@ -1,16 +1,22 @@
-ghost use Rattle.std.specs.Prelude.{◌≤◌};
+ghost use Rattle.std.specs.Prelude.{◌≡◌, ◌≤◌};
+ghost use Rattle.port.specs.declared.board.TheConstants.{READINGS, BYTES};
 
 use crate::reading::Reading;
+use crate::ring::Ring;
 
-// A port with room for 16 readings and 64 bytes. The readings wait in a ring, from `first` on.
+// The room of the port on the board.
+pub(crate) const READINGS: usize = 16;
+
+pub(crate) const BYTES: usize = 64;
+
+// A port with room for 16 readings and 64 bytes. The readings wait in a ring.
+// Stays: no heap on the board, so the shown bytes are a fixed memory and how many of them are written.
 #[derive(Drop)]
 pub struct BoardPort {
-    pub(crate) readings: [Reading; 16],
-    pub(crate) first: usize,
-    pub(crate) count: usize,
-    pub(crate) bytes: [u8; 64],
+    pub(crate) readings: [Reading; READINGS],
+    pub(crate) ring: Ring,
+    pub(crate) bytes: [u8; BYTES],
     pub(crate) written: usize,
-    ghost within: { first ≤ 15 },
-    ghost few: { count ≤ 16 },
-    ghost short: { written ≤ 64 },
+    ghost whole: { ring.places ≡ READINGS },
+    ghost short: { written ≤ BYTES },
 }

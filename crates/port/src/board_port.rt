@@ -2,12 +2,12 @@ ghost use Rattle.std.specs.Prelude.{◌≡◌, []};
 ghost use Rattle.port.specs.Meaning.{meant};
 ghost use Rattle.port.specs.Board.{on_board};
 
-use crate::board::BoardPort;
+use crate::board::{BYTES, BoardPort, READINGS};
 use crate::bytes::{byte_at, put_byte};
 use crate::ports::Port;
 use crate::reading::Reading;
-use crate::ring::{first_of, put_last, wrap};
-use program::{Fault, Place, PortCause};
+use crate::ring::Ring;
+use program::Fault;
 
 impl BoardPort {
     // An empty port.
@@ -15,10 +15,9 @@ impl BoardPort {
         ensures { on_board result ≡ meant [] [] 16 64 }
     {
         BoardPort {
-            readings: [Reading { value: 0 }; 16],
-            first: 0,
-            count: 0,
-            bytes: [0; 64],
+            readings: [Reading { value: 0 }; READINGS],
+            ring: Ring::new(READINGS),
+            bytes: [0; BYTES],
             written: 0,
         }
     }
@@ -28,31 +27,18 @@ impl Port for BoardPort {
     ghost meaning = { on_board };
 
     fn offer(&mut self, reading: Reading) -> Result<(), Fault> {
-        if self.count >= 16 {
-            return Err(Fault::Port(PortCause::NoOpening, Place::Nowhere));
-        }
-        put_last(&mut self.readings, self.first, self.count, reading);
-        self.count += 1;
+        let place = self.ring.use_next()?;
+        self.readings[place] = reading;
         Ok(())
     }
 
     fn take(&mut self) -> Option<Reading> {
-        if self.count == 0 {
-            return None;
-        }
-        let reading = first_of(&self.readings, self.first, self.count);
-        self.first = wrap(16, self.first + 1);
-        self.count -= 1;
-        Some(reading)
+        let place = self.ring.free_first()?;
+        Some(self.readings[place])
     }
 
     fn show(&mut self, byte: u8) -> Result<(), Fault> {
-        if self.written >= 64 {
-            return Err(Fault::Port(PortCause::NoSpace, Place::Nowhere));
-        }
-        put_byte(&mut self.bytes, self.written, byte);
-        self.written += 1;
-        Ok(())
+        put_byte(&mut self.bytes, &mut self.written, byte)
     }
 
     fn clear(&mut self) {
@@ -60,11 +46,11 @@ impl Port for BoardPort {
     }
 
     fn openings(&self) -> usize {
-        16 - self.count
+        self.ring.unused()
     }
 
     fn space(&self) -> usize {
-        64 - self.written
+        BYTES - self.written
     }
 
     fn shown(&self) -> usize {

@@ -1,13 +1,19 @@
-ghost use Rattle.std.specs.Prelude.{◌≡◌, ◌+◌, ◌<◌, ◌≤◌, [], ◌∷◌, ◌++◌, length, take, slice_set};
+ghost use Rattle.std.specs.Prelude.{◌≡◌, ◌≤◌, length, take};
 ghost use Rattle.std.specs.List.{slice_get};
+ghost use Rattle.port.specs.Bytes.{Put};
 
-// One more byte after the written ones.
-pub(crate) fn put_byte(bytes: &mut [u8], written: usize, byte: u8)
-    requires { written < length bytes.old }
-    ensures shown { take (written + 1) bytes.new ≡ take written bytes.old ++ byte ∷ [] }
-    ensures whole { bytes.new ≡ slice_set bytes.old written byte }
+use program::{Fault, Place, PortCause};
+
+// One more byte after the written ones, if there is space.
+pub(crate) fn put_byte(bytes: &mut [u8], written: &mut usize, byte: u8) -> Result<(), Fault>
+    ensures { Put byte result bytes.old written.old bytes.new written.new }
 {
-    bytes[written] = byte;
+    if *written >= bytes.len() {
+        return Err(Fault::Port(PortCause::NoSpace, Place::Nowhere));
+    }
+    bytes[*written] = byte;
+    *written += 1;
+    Ok(())
 }
 
 // The byte at a place among the written ones.
@@ -15,9 +21,5 @@ pub(crate) fn byte_at(bytes: &[u8], written: usize, place: usize) -> Option<u8>
     requires { written ≤ length bytes.now }
     ensures { result ≡ slice_get (take written bytes.now) place }
 {
-    if place < written {
-        Some(bytes[place])
-    } else {
-        None
-    }
+    bytes[..written].get(place).copied()
 }

@@ -8,6 +8,7 @@ mod place;
 mod ports;
 mod reading;
 mod ring;
+mod ring_use;
 mod service;
 mod service_port;
 #[cfg(test)]

@@ -1,5 +1,5 @@
 // What a port takes in.
-#[derive(Clone, Copy)]
+#[derive(Clone, Copy, PartialEq, Eq)]
 pub struct Reading {
     pub value: i32,
 }

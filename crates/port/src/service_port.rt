@@ -1,16 +1,15 @@
-ghost use Rattle.std.specs.Prelude.{◌≡◌, ◌+◌, ◌-◌, ◌<◌, [], ◌∷◌, ◌++◌, length, take, slice_set};
+ghost use Rattle.std.specs.Prelude.{◌≡◌, ◌<◌, [], length};
 ghost use Rattle.port.specs.Meaning.{Offered, Taken, Shown, Cleared, meant};
-ghost use Rattle.port.specs.Place.{places_in, placed, waiting_in};
-ghost use Rattle.port.specs.Ring.{wrapped};
+ghost use Rattle.port.specs.Place.{places_in, place_reading};
 ghost use Rattle.port.specs.Service.{held_by, held, in_service, after_offer, after_take, after_show, after_clear, SameLenders};
 
-use crate::bytes::byte_at;
-use crate::place::{read_place, text_of};
+use crate::bytes::{byte_at, put_byte};
+use crate::place::{PLACE, read_place, write_place};
 use crate::ports::Port;
 use crate::reading::Reading;
-use crate::ring::wrap;
+use crate::ring::Ring;
 use crate::service::ServicePort;
-use program::{Fault, Place, PortCause};
+use program::Fault;
 
 impl<'a> ServicePort<'a> {
     // An empty port over the memories, of which no byte is changed.
@@ -20,51 +19,26 @@ impl<'a> ServicePort<'a> {
         ensures lenders { (result.places.ghost_name ≡ places.entry.ghost_name) × (result.bytes.ghost_name ≡ bytes.entry.ghost_name) }
     {
         ServicePort {
+            ring: Ring::new(places.len() / PLACE),
             places,
             bytes,
-            first: 0,
-            count: 0,
             written: 0,
         }
     }
 }
 
 impl ServicePort<'_> {
-    // A reading written into the place after the last.
-    fn write_last(&mut self, reading: Reading)
-        requires { self.old.count < places_in self.old.places.now }
-        ensures waiting { waiting_in self.new.places.now self.old.first (self.old.count + 1) ≡ waiting_in self.old.places.now self.old.first self.old.count ++ reading ∷ [] }
-        ensures bytes { held_by self.new ≡ held (placed self.old.places.now (wrapped (places_in self.old.places.now) (self.old.first + self.old.count)) reading) self.old.bytes.now self.old.first self.old.count self.old.written }
-        ensures size { length self.new.places.now ≡ length self.old.places.now }
-        ensures lenders { SameLenders self.old self.new }
+    // The reading that stands at a place.
+    fn reading_at(&self, place: usize) -> Reading
+        requires { place < places_in self.now.places.now }
+        ensures { result ≡ place_reading self.now.places.now place }
     {
-        let place = wrap(self.places.len() / 12, self.first + self.count);
-        let text = text_of(reading);
-        for (i, byte) in text.iter().enumerate() {
-            self.places[12 * place + i] = *byte;
-        }
-    }
-
-    // The first of those that wait.
-    fn read_first(&self) -> Reading
-        requires { 0 < self.now.count }
-        ensures { waiting_in self.now.places.now self.now.first self.now.count ≡ result ∷ waiting_in self.now.places.now (wrapped (places_in self.now.places.now) (self.now.first + 1)) (self.now.count - 1) }
-    {
-        read_place(self.places, self.first)
-    }
-
-    // A byte written after the shown ones.
-    fn write_byte(&mut self, byte: u8)
-        requires { self.old.written < length self.old.bytes.now }
-        ensures shown { take (self.old.written + 1) self.new.bytes.now ≡ take self.old.written self.old.bytes.now ++ byte ∷ [] }
-        ensures bytes { held_by self.new ≡ held self.old.places.now (slice_set self.old.bytes.now self.old.written byte) self.old.first self.old.count self.old.written }
-        ensures lenders { SameLenders self.old self.new }
-    {
-        let at = self.written;
-        self.bytes[at] = byte;
+        read_place(self.places, place)
     }
 }
 
+// Stays: the two ports are one ring and one row of bytes each, but this one also promises of each call which bytes of
+// the two lent memories it changes, and a generic port could not say it.
 impl<'a> Port for ServicePort<'a> {
     ghost meaning = { in_service };
 
@@ -73,11 +47,8 @@ impl<'a> Port for ServicePort<'a> {
         ensures bytes { held_by self.new ≡ after_offer reading result (held_by self.old) }
         ensures lenders { SameLenders self.old self.new }
     {
-        if self.count >= self.places.len() / 12 {
-            return Err(Fault::Port(PortCause::NoOpening, Place::Nowhere));
-        }
-        self.write_last(reading);
-        self.count += 1;
+        let place = self.ring.use_next()?;
+        write_place(self.places, place, reading);
         Ok(())
     }
 
@@ -86,13 +57,8 @@ impl<'a> Port for ServicePort<'a> {
         ensures bytes { held_by self.new ≡ after_take result (held_by self.old) }
         ensures lenders { SameLenders self.old self.new }
     {
-        if self.count == 0 {
-            return None;
-        }
-        let reading = self.read_first();
-        self.first = wrap(self.places.len() / 12, self.first + 1);
-        self.count -= 1;
-        Some(reading)
+        let place = self.ring.free_first()?;
+        Some(self.reading_at(place))
     }
 
     fn show(&mut self, byte: u8) -> Result<(), Fault>
@@ -100,12 +66,7 @@ impl<'a> Port for ServicePort<'a> {
         ensures bytes { held_by self.new ≡ after_show byte result (held_by self.old) }
         ensures lenders { SameLenders self.old self.new }
     {
-        if self.written >= self.bytes.len() {
-            return Err(Fault::Port(PortCause::NoSpace, Place::Nowhere));
-        }
-        self.write_byte(byte);
-        self.written += 1;
-        Ok(())
+        put_byte(self.bytes, &mut self.written, byte)
     }
 
     fn clear(&mut self)
@@ -117,7 +78,7 @@ impl<'a> Port for ServicePort<'a> {
     }
 
     fn openings(&self) -> usize {
-        self.places.len() / 12 - self.count
+        self.ring.unused()
     }
 
     fn space(&self) -> usize {

@@ -4,10 +4,7 @@ use crate::reading::Reading;
 use crate::service::ServicePort;
 
 fn value(reading: Option<Reading>) -> Option<i32> {
-    match reading {
-        Some(reading) => Some(reading.value),
-        None => None,
-    }
+    reading.map(|reading| reading.value)
 }
 
 // Sixteen readings wait, and no more; a taken one frees its place.

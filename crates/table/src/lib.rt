@@ -7,6 +7,7 @@ ghost use Rattle.table.specs.Rows.{Stands};
 ghost use Rattle.std.specs.Prelude.{◌≡◌, length};
 
 // How many rows the table has.
+// Stays: the table is text of the proofs alone, so no code has its rows to count.
 fn rows() -> usize
     ensures { result ≡ length examples }
 {

@@ -1,8 +1,9 @@
-use crate::quoting::write_bytes;
+use crate::quoting::Quoted;
 use assembler::{assemble, source_line};
-use bench::refusal_text;
+use bench::{NET, Refusal};
 use program::{Counts, Fault, Label, Place, Text, Unit};
 use std::alloc::Global;
+use std::fmt;
 
 // A site text and a library text, assembled into 32 cells with 3 label slots and 2 unit slots.
 #[derive(Clone, Copy)]
@@ -11,26 +12,6 @@ pub(crate) struct TextPair {
     pub site: &'static [u8],
     pub library: &'static [u8],
 }
-
-// The program that the documents follow step by step.
-pub(crate) const NET: &[u8] = b".UNIT net, 2, 1
-RMEM 1
-PUSH 40
-PUSH -55
-PUSH net
-CALL
-IPRINT
-HALT
-net: LOADFP
-LOADSP
-STOREFP
-LOAD 4
-LOAD 3
-ADD
-STORE 5
-STOREFP
-RET 2
-";
 
 pub(crate) const TEXTS: [TextPair; 33] = [
     TextPair {
@@ -200,15 +181,6 @@ pub(crate) const TEXTS: [TextPair; 33] = [
     },
 ];
 
-fn write_place(out: &mut String, place: Place) -> anyhow::Result<()> {
-    match place {
-        Place::Line(Text::Site, _) => out.push_str(" site")?,
-        Place::Line(Text::Library, _) => out.push_str(" library")?,
-        _ => (),
-    }
-    Ok(())
-}
-
 // Writes why texts were refused, and the line that is at fault.
 pub(crate) fn write_refusal(
     out: &mut String,
@@ -216,35 +188,38 @@ pub(crate) fn write_refusal(
     site: &[u8],
     library: &[u8],
 ) -> anyhow::Result<()> {
-    let refusal = refusal_text(*out.allocator(), fault)?;
-    out.push_str(refusal.as_str())?;
-    write_place(out, fault.place())?;
+    let text = match fault.place() {
+        Place::Line(Text::Site, _) => " site",
+        Place::Line(Text::Library, _) => " library",
+        _ => "",
+    };
+    write!(out, "{}{text}", Refusal(fault))?;
     match source_line(fault, site, library) {
-        Some(line) => {
-            out.push_str(": ")?;
-            write_bytes(out, line)
-        }
-        None => {
-            out.push_str(", no line")?;
-            Ok(())
-        }
+        Some(line) => write!(out, ": {}", Quoted(line))?,
+        None => out.push_str(", no line")?,
     }
+    Ok(())
 }
 
-pub(crate) fn write_counts(out: &mut String, counts: Counts) -> anyhow::Result<()> {
-    let Counts {
-        cells,
-        code,
-        data,
-        heap,
-        labels,
-        units,
-    } = counts;
-    write!(
-        out,
-        "n {cells} C {code} D {data} H {heap}, labels {labels}, units {units}"
-    )?;
-    Ok(())
+// The counts of a program, as `n 32 C 24 D 0 H 0, labels 1, units 1`.
+#[derive(Clone, Copy)]
+pub(crate) struct Tally(pub Counts);
+
+impl fmt::Display for Tally {
+    fn fmt<W: fmt::Write>(&self, f: &mut fmt::Formatter<W>) -> fmt::Result {
+        let Counts {
+            cells,
+            code,
+            data,
+            heap,
+            labels,
+            units,
+        } = self.0;
+        write!(
+            f,
+            "n {cells} C {code} D {data} H {heap}, labels {labels}, units {units}"
+        )
+    }
 }
 
 // Writes the labels in slots, zero records left out.
@@ -252,9 +227,7 @@ fn write_labels(out: &mut String, labels: &[Label]) -> anyhow::Result<()> {
     for label in labels {
         let address = label.address;
         if address > 0 || !label.name.text().is_empty() {
-            out.push_str("; ")?;
-            write_bytes(out, label.name.text())?;
-            write!(out, " {address}")?;
+            write!(out, "; {} {address}", Quoted(label.name.text()))?;
         }
     }
     Ok(())
@@ -265,9 +238,8 @@ fn write_units(out: &mut String, units: &[Unit]) -> anyhow::Result<()> {
     for unit in units {
         let (entry, arguments, results) = (unit.entry, unit.arguments, unit.results);
         if entry > 0 || !unit.name.text().is_empty() {
-            out.push_str("; unit ")?;
-            write_bytes(out, unit.name.text())?;
-            write!(out, " {entry} {arguments} {results}")?;
+            let name = Quoted(unit.name.text());
+            write!(out, "; unit {name} {entry} {arguments} {results}")?;
         }
     }
     Ok(())
@@ -275,12 +247,8 @@ fn write_units(out: &mut String, units: &[Unit]) -> anyhow::Result<()> {
 
 // Writes the cells of a memory without the zeros at its end.
 fn write_cells(out: &mut String, memory: &[i32]) -> anyhow::Result<()> {
-    let mut used = 0;
-    for (address, cell) in memory.iter().enumerate() {
-        if *cell != 0 {
-            used = address + 1;
-        }
-    }
+    let zeros = memory.iter().rev().take_while(|cell| **cell == 0).count();
+    let used = memory.len().saturating_sub(zeros);
     out.push_str("; cells")?;
     for cell in memory.iter().take(used) {
         write!(out, " {cell}")?;
@@ -288,7 +256,7 @@ fn write_cells(out: &mut String, memory: &[i32]) -> anyhow::Result<()> {
     Ok(())
 }
 
-// What two texts assemble to: the counts, the cells and the slots, or the refusal and its line. What stood in memory
+// The name of two texts and what they assemble to: the counts, the cells and the slots, or the refusal and its line. What stood in memory
 // and slots before is gone after.
 pub(crate) fn text_answer(heap: Global, text: &TextPair) -> anyhow::Result<String> {
     let mut memory = [7; 32];
@@ -300,7 +268,7 @@ pub(crate) fn text_answer(heap: Global, text: &TextPair) -> anyhow::Result<Strin
         entry: 7,
         ..Unit::empty()
     }; 2];
-    let mut out = String::new(heap);
+    let mut out = format!(in heap; "{}: ", text.name)?;
     match assemble(
         text.site,
         text.library,
@@ -308,7 +276,7 @@ pub(crate) fn text_answer(heap: Global, text: &TextPair) -> anyhow::Result<Strin
         &mut labels,
         &mut units,
     ) {
-        Ok(program) => write_counts(&mut out, program.counts())?,
+        Ok(program) => write!(out, "{}", Tally(program.counts()))?,
         Err(fault) => write_refusal(&mut out, fault, text.site, text.library)?,
     }
     write_cells(&mut out, &memory)?;

@@ -1,7 +1,7 @@
-use crate::assemblies::NET;
+use crate::runs::run_text;
 use assembler::assemble;
-use bench::{outcome_text, refusal_text};
-use machine::{Machine, bench_start, run};
+use bench::{NET, Refusal};
+use machine::{Machine, bench_start};
 use port::{BoardPort, Port};
 use program::{Assembled, Label, Unit};
 use std::alloc::Global;
@@ -13,12 +13,8 @@ fn write_run<P: Port>(
     memory: &mut [i32],
     port: &mut P,
 ) -> anyhow::Result<()> {
-    let heap = *out.allocator();
     let cells = memory.len();
-    let text = match run(machine, memory, port, 100) {
-        Ok(report) => outcome_text(heap, report, machine.registers().pc)?,
-        Err(fault) => refusal_text(heap, fault)?,
-    };
+    let text = run_text(*out.allocator(), machine, memory, port, 100)?;
     write!(out, " run over {cells}: {text}.")?;
     Ok(())
 }
@@ -34,8 +30,7 @@ fn write_starts(
     match bench_start(program, other) {
         Ok(_) => out.push_str(" started over another memory.")?,
         Err(back) => {
-            let text = refusal_text(*out.allocator(), back.fault)?;
-            write!(out, " start: {text}.")?;
+            write!(out, " start: {}.", Refusal(back.fault))?;
             if let Ok(mut machine) = bench_start(back.program, memory) {
                 write_run(out, &mut machine, other, &mut port)?;
                 write_run(out, &mut machine, memory, &mut port)?;
@@ -54,7 +49,7 @@ pub(crate) fn lengths_answer(heap: Global) -> anyhow::Result<String> {
     let mut units = [Unit::empty(); 1];
     match assemble(NET, b"", &mut memory, &mut labels, &mut units) {
         Ok(program) => write_starts(&mut out, program, &mut memory, &mut [0; 31])?,
-        Err(fault) => out.push_str(refusal_text(heap, fault)?.as_str())?,
+        Err(fault) => write!(out, "{}", Refusal(fault))?,
     }
     Ok(out)
 }

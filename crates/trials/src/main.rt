@@ -19,42 +19,19 @@ use crate::reports::{INPUTS, report_answer};
 use crate::runs::{TRIALS, trial_answer};
 use crate::sizes::{SIZES, size_answer};
 use crate::sums::{SUMS, sum_answer};
+use std::alloc::Global;
 
-fn try_texts(rt: &HostRuntime) -> anyhow::Result<()> {
-    for text in &TEXTS {
-        let name = text.name;
-        let answer = text_answer(rt.alloc(), text)?;
-        println!(rt; "{name}: {answer}")?;
-    }
-    for size in &SIZES {
-        let answer = size_answer(rt.alloc(), *size)?;
-        println!(rt; "{answer}")?;
-    }
-    Ok(())
-}
-
-fn try_runs(rt: &HostRuntime) -> anyhow::Result<()> {
-    for trial in &TRIALS {
-        let name = trial.name;
-        let answer = trial_answer(rt.alloc(), trial)?;
-        println!(rt; "{name}:{answer}")?;
-    }
-    Ok(())
-}
-
-fn try_reports(rt: &HostRuntime) -> anyhow::Result<()> {
-    for input in &INPUTS {
-        let name = input.name;
-        let answer = report_answer(rt.alloc(), input)?;
-        println!(rt; "{name}: {answer}")?;
-    }
-    for sum in &SUMS {
-        let answer = sum_answer(rt.alloc(), sum)?;
-        println!(rt; "{answer}")?;
-    }
-    for name in &EXAMPLES {
-        let answer = example_answer(rt, name)?;
-        println!(rt; "example {name}: {answer}")?;
+// Prints what each item answers, a line each.
+fn print_each<T, F: Fn(Global, &T) -> anyhow::Result<String>>(
+    rt: &HostRuntime,
+    items: &[T],
+    answer: F,
+) -> anyhow::Result<()>
+    requires { F.IsAlwaysCallable answer }
+{
+    for item in items {
+        let line = answer(rt.alloc(), item)?;
+        println!(rt; "{line}")?;
     }
     Ok(())
 }
@@ -71,9 +48,20 @@ fn try_ports(rt: &HostRuntime) -> anyhow::Result<()> {
     Ok(())
 }
 
+fn try_examples(rt: &HostRuntime) -> anyhow::Result<()> {
+    for name in &EXAMPLES {
+        let answer = example_answer(rt, name)?;
+        println!(rt; "example {name}: {answer}")?;
+    }
+    Ok(())
+}
+
 fn main(rt: HostRuntime) -> anyhow::Result<()> {
-    try_texts(&rt)?;
-    try_runs(&rt)?;
+    print_each(&rt, &TEXTS, text_answer)?;
+    print_each(&rt, &SIZES, size_answer)?;
+    print_each(&rt, &TRIALS, trial_answer)?;
     try_ports(&rt)?;
-    try_reports(&rt)
+    print_each(&rt, &INPUTS, report_answer)?;
+    print_each(&rt, &SUMS, sum_answer)?;
+    try_examples(&rt)
 }

@@ -1,42 +1,43 @@
-use bench::refusal_text;
+use bench::Refusal;
 use port::{BoardPort, Port, Reading, ServicePort};
+use program::Fault;
 use std::alloc::Global;
 
-// Offers 0, 1, 2 and so on, until one is refused.
-fn write_offers<P: Port>(out: &mut String, port: &mut P) -> anyhow::Result<()> {
-    for value in 0..100 {
-        if let Err(fault) = port.offer(Reading { value }) {
-            let text = refusal_text(*out.allocator(), fault)?;
-            write!(out, " offer {value} {text}.")?;
+// Puts in 0, 1, 2 and so on, until one is refused.
+fn write_puts<F: FnMut(u8) -> Result<(), Fault>>(
+    out: &mut String,
+    what: &str,
+    mut put: F,
+) -> anyhow::Result<()>
+    requires { F.IsAlwaysCallable put }
+{
+    for number in 0..100 {
+        if let Err(fault) = put(number) {
+            write!(out, " {what} {number} {}.", Refusal(fault))?;
             break;
         }
     }
     Ok(())
+}
+
+fn write_offers<P: Port>(out: &mut String, port: &mut P) -> anyhow::Result<()> {
+    write_puts(out, "offer", |number| {
+        let value = i32::from(number);
+        port.offer(Reading { value })
+    })
+}
+
+fn write_shows<P: Port>(out: &mut String, port: &mut P) -> anyhow::Result<()> {
+    write_puts(out, "show", |byte| port.show(byte))
 }
 
 // Takes what waits, and once more.
 fn write_takes<P: Port>(out: &mut String, port: &mut P) -> anyhow::Result<()> {
     out.push_str(" take")?;
-    for _ in 0..100 {
-        let Some(reading) = port.take() else {
-            break;
-        };
-        let value = reading.value;
-        write!(out, " {value}")?;
+    while let Some(reading) = port.take() {
+        write!(out, " {}", reading.value)?;
     }
     out.push_str(" none.")?;
-    Ok(())
-}
-
-// Shows bytes 0, 1, 2 and so on, until one is refused.
-fn write_shows<P: Port>(out: &mut String, port: &mut P) -> anyhow::Result<()> {
-    for byte in 0..100 {
-        if let Err(fault) = port.show(byte) {
-            let text = refusal_text(*out.allocator(), fault)?;
-            write!(out, " show {byte} {text}.")?;
-            break;
-        }
-    }
     Ok(())
 }
 

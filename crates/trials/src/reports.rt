@@ -1,4 +1,4 @@
-use crate::quoting::write_bytes;
+use crate::quoting::Quoted;
 use bench::report;
 use std::alloc::Global;
 
@@ -72,10 +72,8 @@ pub(crate) const INPUTS: [BenchInput; 15] = [
     },
 ];
 
-// What the bench reports.
+// The name of an input, and what the bench reports of it.
 pub(crate) fn report_answer(heap: Global, input: &BenchInput) -> anyhow::Result<String> {
-    let mut out = String::new(heap);
     let answer = report(heap, input.bytes)?;
-    write_bytes(&mut out, &answer)?;
-    Ok(out)
+    Ok(format!(in heap; "{}: {}", input.name, Quoted(&answer))?)
 }

@@ -1,11 +1,10 @@
-use crate::assemblies::NET;
-use crate::quoting::write_bytes;
+use crate::quoting::Quoted;
 use assembler::assemble;
-use bench::{outcome_text, refusal_text};
+use bench::{NET, Refusal, outcome_text, refusal_text, shown_bytes};
 use machine::{Machine, bench_start, run};
 use port::{BoardPort, Port, Reading, ServicePort};
 use program::{Assembled, Label, Unit};
-use std::alloc::Global;
+use std::alloc::{AllocError, Global};
 
 // What is done with a started program: a run, an offer, a clear, or a number put into a cell from outside.
 #[derive(Clone, Copy)]
@@ -433,14 +432,23 @@ pub(crate) const TRIALS: [Trial; 66] = [
 
 // Writes the bytes that a port shows, in quotes.
 fn write_shown<P: Port>(out: &mut String, port: &P) -> anyhow::Result<()> {
-    out.push_str(" shows \"")?;
-    for place in 0..port.shown() {
-        if let Some(byte) = port.shown_at(place) {
-            write_bytes(out, &[byte])?;
-        }
-    }
-    out.push('"')?;
+    let bytes = shown_bytes(*out.allocator(), port)?;
+    write!(out, " shows \"{}\"", Quoted(&bytes))?;
     Ok(())
+}
+
+// Runs a machine for so many steps at most, and answers what came of it.
+pub(crate) fn run_text<P: Port>(
+    heap: Global,
+    machine: &mut Machine,
+    memory: &mut [i32],
+    port: &mut P,
+    allowance: u32,
+) -> Result<String, AllocError> {
+    match run(machine, memory, port, allowance) {
+        Ok(report) => outcome_text(heap, report, machine.registers().pc),
+        Err(fault) => refusal_text(heap, fault),
+    }
 }
 
 // Does one act, and writes what came of it.
@@ -453,10 +461,7 @@ fn write_act<P: Port>(
 ) -> anyhow::Result<()> {
     let heap = *out.allocator();
     let text = match act {
-        Act::Run(allowance) => match run(machine, memory, port, allowance) {
-            Ok(report) => outcome_text(heap, report, machine.registers().pc)?,
-            Err(fault) => refusal_text(heap, fault)?,
-        },
+        Act::Run(allowance) => run_text(heap, machine, memory, port, allowance)?,
         Act::Offer(value) => match port.offer(Reading { value }) {
             Ok(()) => format!(in heap; "offered {value}")?,
             Err(fault) => refusal_text(heap, fault)?,
@@ -493,8 +498,7 @@ fn write_acts<P: Port>(
             write_shown(out, port)
         }
         Err(back) => {
-            let text = refusal_text(*out.allocator(), back.fault)?;
-            write!(out, " {text}")?;
+            write!(out, " {}", Refusal(back.fault))?;
             Ok(())
         }
     }
@@ -508,22 +512,21 @@ fn answer_over<P: Port>(heap: Global, trial: &Trial, port: &mut P) -> anyhow::Re
     let mut units = [Unit::empty(); 2];
     match assemble(trial.site, b"", &mut memory, &mut labels, &mut units) {
         Ok(program) => write_acts(&mut out, trial.acts, program, &mut memory, port)?,
-        Err(fault) => {
-            let text = refusal_text(heap, fault)?;
-            write!(out, " {text}")?;
-        }
+        Err(fault) => write!(out, " {}", Refusal(fault))?,
     }
     Ok(out)
 }
 
-// What a trial gives over the board port, and whether a service port of its size gives the same.
+// The name of a trial, what it gives over the board port, and whether a service port of its size gives the same.
 pub(crate) fn trial_answer(heap: Global, trial: &Trial) -> anyhow::Result<String> {
-    let mut answer = answer_over(heap, trial, &mut BoardPort::new())?;
+    let name = trial.name;
+    let answer = answer_over(heap, trial, &mut BoardPort::new())?;
     let mut places = [0; 192];
     let mut bytes = [0; 64];
     let other = answer_over(heap, trial, &mut ServicePort::new(&mut places, &mut bytes))?;
+    let mut out = format!(in heap; "{name}:{answer}")?;
     if answer.as_str() != other.as_str() {
-        write!(answer, " but over the service port{other}")?;
+        write!(out, " but over the service port{other}")?;
     }
-    Ok(answer)
+    Ok(out)
 }

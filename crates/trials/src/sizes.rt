@@ -1,7 +1,8 @@
-use crate::assemblies::{write_counts, write_refusal};
+use crate::assemblies::{Tally, write_refusal};
 use assembler::assemble;
 use program::{Label, Unit};
 use std::alloc::Global;
+use std::fmt;
 
 // What is made as large as a number says.
 #[derive(Clone, Copy)]
@@ -12,6 +13,19 @@ pub(crate) enum Size {
     Line(usize),
     Labels(usize),
     Units(usize),
+}
+
+impl fmt::Display for Size {
+    fn fmt<W: fmt::Write>(&self, f: &mut fmt::Formatter<W>) -> fmt::Result {
+        match *self {
+            Size::Memory(n) => write!(f, "memory of {n} cells"),
+            Size::Site(n) => write!(f, "site text of {n} bytes"),
+            Size::Library(n) => write!(f, "library text of {n} bytes"),
+            Size::Line(n) => write!(f, "line of {n} bytes"),
+            Size::Labels(n) => write!(f, "{n} labels"),
+            Size::Units(n) => write!(f, "{n} units"),
+        }
+    }
 }
 
 pub(crate) const SIZES: [Size; 14] = [
@@ -39,13 +53,6 @@ struct Job {
     cells: usize,
 }
 
-fn write_times(out: &mut String, text: &str, times: usize) -> anyhow::Result<()> {
-    for _ in 0..times {
-        out.push_str(text)?;
-    }
-    Ok(())
-}
-
 fn write_labels(out: &mut String, times: usize) -> anyhow::Result<()> {
     for i in 0..times {
         writeln!(out, "name{i}: NOP")?;
@@ -60,54 +67,35 @@ fn write_units(out: &mut String, times: usize) -> anyhow::Result<()> {
     write_labels(out, times)
 }
 
-// The texts and the memory of a size, and its name.
-fn job_of(heap: Global, name: &mut String, size: Size) -> anyhow::Result<Job> {
+// The texts and the memory of a size.
+fn job_of(heap: Global, size: &Size) -> anyhow::Result<Job> {
     let mut job = Job {
         site: String::new(heap),
         library: String::new(heap),
         cells: 1024,
     };
-    match size {
-        Size::Memory(n) => {
-            job.cells = n;
-            write!(name, "memory of {n} cells")?;
-        }
-        Size::Site(n) => {
-            write_times(&mut job.site, "\n", n)?;
-            write!(name, "site text of {n} bytes")?;
-        }
-        Size::Library(n) => {
-            write_times(&mut job.library, "\n", n)?;
-            write!(name, "library text of {n} bytes")?;
-        }
-        Size::Line(n) => {
-            write_times(&mut job.site, ";", n)?;
-            write!(name, "line of {n} bytes")?;
-        }
-        Size::Labels(n) => {
-            write_labels(&mut job.site, n)?;
-            write!(name, "{n} labels")?;
-        }
-        Size::Units(n) => {
-            write_units(&mut job.site, n)?;
-            write!(name, "{n} units")?;
-        }
+    match *size {
+        Size::Memory(n) => job.cells = n,
+        Size::Site(n) => job.site = "\n".repeat(heap, n)?,
+        Size::Library(n) => job.library = "\n".repeat(heap, n)?,
+        Size::Line(n) => job.site = ";".repeat(heap, n)?,
+        Size::Labels(n) => write_labels(&mut job.site, n)?,
+        Size::Units(n) => write_units(&mut job.site, n)?,
     }
     Ok(job)
 }
 
-// What texts and a memory of a size assemble to, with slots for 600 labels and 70 units.
-pub(crate) fn size_answer(heap: Global, size: Size) -> anyhow::Result<String> {
-    let mut out = String::new(heap);
-    let job = job_of(heap, &mut out, size)?;
-    out.push_str(": ")?;
+// A size, and what texts and a memory of it assemble to, with slots for 600 labels and 70 units.
+pub(crate) fn size_answer(heap: Global, size: &Size) -> anyhow::Result<String> {
+    let mut out = format!(in heap; "{size}: ")?;
+    let job = job_of(heap, size)?;
     let mut memory = vec![in heap; 0; job.cells]?;
     let mut labels = vec![in heap; Label::empty(); 600]?;
     let mut units = vec![in heap; Unit::empty(); 70]?;
     let site = job.site.as_bytes();
     let library = job.library.as_bytes();
     match assemble(site, library, &mut memory, &mut labels, &mut units) {
-        Ok(program) => write_counts(&mut out, program.counts())?,
+        Ok(program) => write!(out, "{}", Tally(program.counts()))?,
         Err(fault) => write_refusal(&mut out, fault, site, library)?,
     }
     Ok(out)

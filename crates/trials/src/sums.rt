@@ -1,4 +1,4 @@
-use crate::quoting::write_bytes;
+use crate::quoting::Quoted;
 use bench::report;
 use std::alloc::Global;
 
@@ -58,8 +58,6 @@ pub(crate) const SUMS: [Sum; 45] = [
 pub(crate) fn sum_answer(heap: Global, sum: &Sum) -> anyhow::Result<String> {
     let Sum(first, mnemonic, second) = *sum;
     let text = format!(in heap; "PUSH {first}\nPUSH {second}\n{mnemonic}\nIPRINT\nHALT\n")?;
-    let mut out = format!(in heap; "{first} {mnemonic} {second}: ")?;
     let answer = report(heap, text.as_bytes())?;
-    write_bytes(&mut out, &answer)?;
-    Ok(out)
+    Ok(format!(in heap; "{first} {mnemonic} {second}: {}", Quoted(&answer))?)
 }

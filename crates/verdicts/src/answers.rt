@@ -1,6 +1,6 @@
 use crate::table::{Change, CheckTrial};
 use assembler::assemble;
-use bench::{outcome_text, refusal_text};
+use bench::{Ending, Refusal};
 use checker::{Passed, check, start};
 use machine::{Machine, run};
 use plan::Planned;
@@ -32,30 +32,25 @@ fn apply(changes: &[Change], memory: &mut [i32], units: &mut [Unit]) {
 
 // Writes the places that are set, each with its body and depth, and how many are as before.
 fn write_plan(out: &mut String, plan: &[Option<Planned>]) -> anyhow::Result<()> {
-    let mut stale: usize = 0;
     out.push_str("; plan")?;
     for (address, place) in plan.iter().enumerate() {
         match *place {
-            Some(Planned { body: 9, depth: 9 }) => stale = stale.wrapping_add(1),
+            Some(Planned { body: 9, depth: 9 }) | None => {}
             Some(Planned { body, depth }) => write!(out, " {address}:{body}/{depth}")?,
-            None => {}
         }
     }
+    let stale = plan
+        .iter()
+        .filter(|place| matches!(**place, Some(Planned { body: 9, depth: 9 })))
+        .count();
     write!(out, ", {stale} as before")?;
     Ok(())
 }
 
 // Writes how many numbers of the visit list are 0, and how many are as before.
 fn write_visits(out: &mut String, visits: &[u32]) -> anyhow::Result<()> {
-    let mut zeros: usize = 0;
-    let mut stale: usize = 0;
-    for visit in visits {
-        match *visit {
-            0 => zeros = zeros.wrapping_add(1),
-            7 => stale = stale.wrapping_add(1),
-            _ => {}
-        }
-    }
+    let zeros = visits.iter().filter(|visit| **visit == 0).count();
+    let stale = visits.iter().filter(|visit| **visit == STALE_VISIT).count();
     write!(out, "; visits {zeros} zero, {stale} as before")?;
     Ok(())
 }
@@ -75,8 +70,7 @@ pub(crate) fn write_check(
             Ok(passed)
         }
         Err(back) => {
-            let text = refusal_text(*out.allocator(), back.fault)?;
-            write!(out, " {text}")?;
+            write!(out, " {}", Refusal(back.fault))?;
             Err(back.program)
         }
     };
@@ -87,12 +81,13 @@ pub(crate) fn write_check(
 
 // Runs a machine for 100 steps at most, and writes the outcome.
 fn write_run(out: &mut String, machine: &mut Machine, memory: &mut [i32]) -> anyhow::Result<()> {
-    let heap = *out.allocator();
-    let text = match run(machine, memory, &mut BoardPort::new(), 100) {
-        Ok(report) => outcome_text(heap, report, machine.registers().pc)?,
-        Err(fault) => refusal_text(heap, fault)?,
-    };
-    write!(out, "; {text}")?;
+    match run(machine, memory, &mut BoardPort::new(), 100) {
+        Ok(report) => {
+            let pc = machine.registers().pc;
+            write!(out, "; {}", Ending { report, pc })?;
+        }
+        Err(fault) => write!(out, "; {}", Refusal(fault))?,
+    }
     Ok(())
 }
 
@@ -108,8 +103,7 @@ pub(crate) fn write_start(
             Ok(None)
         }
         Err(back) => {
-            let text = refusal_text(*out.allocator(), back.fault)?;
-            write!(out, "; start {text}")?;
+            write!(out, "; start {}", Refusal(back.fault))?;
             Ok(Some(back.program))
         }
     }
@@ -131,7 +125,7 @@ pub(crate) fn check_answer(heap: Global, trial: &CheckTrial) -> anyhow::Result<S
                 let _ = write_start(&mut out, passed, &mut memory)?;
             }
         }
-        Err(fault) => out.push_str(refusal_text(heap, fault)?.as_str())?,
+        Err(fault) => write!(out, "{}", Refusal(fault))?,
     }
     Ok(out)
 }

@@ -1,6 +1,6 @@
 use crate::answers::{STALE, STALE_VISIT, write_check, write_start};
-use crate::table::NET;
 use assembler::assemble;
+use bench::NET;
 use checker::Passed;
 use program::{Assembled, Label, Unit};
 use std::alloc::Global;

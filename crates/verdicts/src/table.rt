@@ -1,3 +1,5 @@
+use bench::NET;
+
 // A number put from outside into a cell, or into the entry of a unit.
 #[derive(Clone, Copy)]
 pub(crate) enum Change {
@@ -12,26 +14,6 @@ pub(crate) struct CheckTrial {
     pub site: &'static [u8],
     pub changes: &'static [Change],
 }
-
-// The program that the documents follow step by step.
-pub(crate) const NET: &[u8] = b".UNIT net, 2, 1
-RMEM 1
-PUSH 40
-PUSH -55
-PUSH net
-CALL
-IPRINT
-HALT
-net: LOADFP
-LOADSP
-STOREFP
-LOAD 4
-LOAD 3
-ADD
-STORE 5
-STOREFP
-RET 2
-";
 
 pub(crate) const CHECKS: [CheckTrial; 76] = [
     CheckTrial {

@@ -1,9 +1,8 @@
-use Rattle.std.proofs.Common.{◌≡◌, ℕ, List, [], length, IfOk, vec_items, sym, ap, ◌∙◌, subst}
+use Rattle.std.proofs.Common.{◌≡◌, ℕ, List, [], length, IfOk, vec_items, refl, sym, ◌∙◌, subst}
 use Rattle.std.proofs.lemmas.Result.{IfOk-from_err}
 use Rattle.assembler.specs.Assembly.{assembled}
 use Rattle.assembler.specs.Handed.{handed}
-use Rattle.syntax.specs.Lines.{lines}
-use Rattle.bench.specs.Input.{numbers}
+use Rattle.bench.specs.Input.{readings_of}
 use Rattle.bench.proofs.Assemblies.{sized, cells_is, bench_ok, bench_err}
 use Rattle.bench.proofs.reports.report.Goals as goal
 
@@ -15,7 +14,7 @@ returns-in_err-units c = IfOk-from_err c.from_residual-in_err-units.result _ c.f
 
 pub started-requires : goal.started-requires
 started-requires c =
-    let site = c.split.result.site.now in
+    let site = c.site_text.result.now in
     let memory = c.as_mut_slice-cells.result.now in
     let labels = c.deref_mut.result.now in
     let units = c.deref_mut-2.result.now in
@@ -34,10 +33,10 @@ returns-in-Ok c =
     let l : length labels ≡ 512 = c.deref_mut.ensures.len ∙ c.in_ok-labels.ensures.len in
     let u : length units ≡ 64 = c.deref_mut-2.ensures.len ∙ c.in_ok-units.ensures.len in
     let after = handed c.assemble.new.memory c.assemble.new.labels c.assemble.new.units in
-    let xs = numbers (lines c.split.result.readings.now) in
+    let xs = readings_of c.args.input.now in
     let e =
-    bench_ok c.args.input.now c.split.result.site.now (length memory) (length labels) (length units) (handed memory labels units) after c.split.ensures.site n l u
-    xs c.in-Ok.program (ap numbers c.split.ensures.readings) c.in-Ok.ensures
+    bench_ok c.args.input.now c.site_text.result.now (length memory) (length labels) (length units) (handed memory labels units) after c.site_text.ensures n l u
+    xs c.in-Ok.program refl c.in-Ok.ensures
     in
     subst (λ (bs : List ℕ). IfOk c.started.result (λ v. vec_items v ≡ bs)) e c.started.ensures
 
@@ -51,7 +50,7 @@ returns c =
     let u : length units ≡ 64 = c.deref_mut-2.ensures.len ∙ c.in_ok-units.ensures.len in
     let after = handed c.assemble.new.memory c.assemble.new.labels c.assemble.new.units in
     let e =
-    bench_err c.args.input.now c.split.result.site.now (length memory) (length labels) (length units) (handed memory labels units) after c.split.ensures.site n l u
+    bench_err c.args.input.now c.site_text.result.now (length memory) (length labels) (length units) (handed memory labels units) after c.site_text.ensures n l u
     c.in-Err.fault c.in-Err.ensures
     in
     subst (λ (bs : List ℕ). IfOk c.refused.result (λ v. vec_items v ≡ bs)) e c.refused.ensures

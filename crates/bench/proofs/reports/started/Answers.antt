@@ -3,8 +3,7 @@ use Rattle.std.proofs.lemmas.Result.{IfOk-from_err}
 use Rattle.port.specs.Meaning.{meant}
 use Rattle.port.specs.Service.{in_service}
 use Rattle.machine.specs.Console.{Console, console}
-use Rattle.syntax.specs.Lines.{lines}
-use Rattle.bench.specs.Input.{numbers}
+use Rattle.bench.specs.Input.{readings_of}
 use Rattle.bench.specs.Trial.{trial, offered}
 use Rattle.bench.proofs.Offering.{offered_new}
 use Rattle.bench.proofs.reports.started.Goals as goal
@@ -14,7 +13,7 @@ returns-in_err-bytes c = IfOk-from_err c.from_residual-in_err-bytes.result _ c.f
 
 pub returns : goal.returns
 returns c =
-    let xs = numbers (lines c.args.readings.now) in
+    let xs = readings_of c.args.input.now in
     let m = in_service c.new-port.result in
     let m' = in_service c.offer_readings.new.port in
     let places : length c.deref_mut.result.now ≡ 768 = c.deref_mut.ensures.len ∙ c.in_ok-places.ensures.len in

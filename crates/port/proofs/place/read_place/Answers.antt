@@ -7,7 +7,7 @@ use Rattle.port.proofs.place.read_place.Goals as goal
 
 pub returns : goal.returns
 returns c =
-    let f : SFits w32 c.number_of.result = search rules in
+    let f : SFits w32 c.unwrap_or.result = search rules in
     let p = drop (12 * c.args.place) c.args.places.now in
     let e : 12 * c.args.place + 12 - 12 * c.args.place ≡ 12 = omega arith in
-    simp to_z-of_z (ap number (c.number_of.ensures ∙ ap (λ t. or_zero (read_as t)) (c.before_space-text.ensures ∙ ap (λ n. up_to_space (take n p)) e)))
+    simp to_z-of_z (ap number (c.unwrap_or.ensures ∙ ap or_zero (c.read.ensures ∙ ap read_as (c.before_space-text.ensures ∙ ap (λ n. up_to_space (take n p)) e))))
