@@ -1,7 +1,6 @@
 -- From the parts of a rule to what it says of a place.
-use Rattle.std.proofs.Common.{◌≡◌, ℕ, List, ℤ, Ok, Err, sym, subst, inl, inr, arith}
+use Rattle.std.proofs.Common.{◌≡◌, ℕ, Ok, Err, sym, subst, inl, inr, arith}
 use Rattle.program.specs.declared.fault.CheckCause.{CheckCause}
-use Rattle.program.specs.declared.unit.Unit.{Unit as UnitRecord}
 use Rattle.isa.specs.declared.instruction.Instruction.{Instruction}
 use Rattle.plan.specs.declared.kind.Kind.{Kind}
 use Rattle.plan.specs.declared.kind.Kind.TheVariants.{Pushes}
@@ -9,7 +8,7 @@ use Rattle.plan.specs.Kinds.{table, count, kind}
 use Rattle.plan.specs.Programs.{Program}
 use Rattle.plan.specs.Rules.{CallFollows, RuleOf}
 use Rattle.plan.specs.Causes.{Unruled, FewForCall, Holding}
-use Rattle.plan.specs.Rulings.{Ruling, successors, Ruled, Called, LowIn}
+use Rattle.plan.specs.Rulings.{Ruling, successors, Ruled, Called}
 use Rattle.plan.proofs.Rows.{Fixed, fixed}
 
 module _ (P : Program) (a b h : ℕ) (i : Instruction) (push : kind i.op ≡ Pushes) (follows : CallFollows P.code a) where
@@ -21,7 +20,3 @@ module _ (P : Program) (a b h : ℕ) (i : Instruction) (push : kind i.op ≡ Pus
       let e = subst (λ (k : Kind). Fixed k (table i.op (count i.argument))) push (fixed i.op (count i.argument)) in
       subst (λ (x : CheckCause). Holding P a b h i x) (sym q.0) (omega (arith, e.0), omega (arith, e.0, e.1, q.1))
   called_ruled (Ok n) q = subst (λ (x : Kind). RuleOf P a b h i (successors n) x) (sym push) (inl (follows, q.0))
-
-pub called_low : (us : List UnitRecord) (a h : ℕ) (e : ℤ) (r : Ruling) → Called us a h e r → LowIn r
-called_low us a h e (Err c) q = tt
-called_low us a h e (Ok n) q = q.1

@@ -1,5 +1,5 @@
 -- Units in their order, and what is asked of one of them.
-use Rattle.std.proofs.Common.{◌≡◌, ℕ, zero, suc, ◌+◌, ◌<◌, ◌≤◌, Bool, List, length, get_or, ℤ, pos, ◌≤ℤ◌, Some, None, Decides, Option, sym, ap, ◌∙◌, subst, inl, inr, ⊎_elim, arith}
+use Rattle.std.proofs.Common.{◌≡◌, ℕ, zero, suc, ◌+◌, ◌<◌, ◌≤◌, Bool, List, ℤ, pos, ◌≤ℤ◌, Some, None, Decides, Option, sym, ap, ◌∙◌, subst, inl, inr, ⊎_elim, arith}
 use Rattle.std.proofs.lemmas.Int.{ints}
 use Rattle.std.proofs.lemmas.List.{get_or_default}
 use Rattle.std.proofs.lemmas.Bool.{cases_lt}
@@ -13,10 +13,6 @@ use Rattle.plan.specs.Rules.{Closes, InFrame}
 -- a place has one unit
 pub listed_same : (us : List UnitRecord) (k : ℕ) (v w : UnitRecord) → Listed us k v → Listed us k w → v ≡ w
 listed_same us k v w p q = sym p.1 ∙ (get_or_default us k v w p.0 ∙ q.1)
-
--- the unit that a loop comes to
-pub listed_at : (us : List UnitRecord) (k : ℕ) (d : UnitRecord) → k < length us → Listed us k (get_or us k d)
-listed_at us k d l = (l, get_or_default us k (get_or us k d) d l)
 
 -- what holds of the units before the i-th and of it
 pub units_each : (us : List UnitRecord) (Q : ℕ → UnitRecord → Type 0) (i : ℕ) (w : UnitRecord) → ((k : ℕ) (v : UnitRecord) → k < i → Listed us k v → Q k v) → Listed us i w → Q i w →

@@ -35,11 +35,7 @@ impl<'a> Coded<'a> {
         ensures { MatchOption result ((k : ℤ) → instruction self.now.code.now address ≢ Some (record { op = Ret; argument = k })) (λ k. instruction self.now.code.now address ≡ Some (record { op = Ret; argument = k })) }
     {
         let i = instruction_at(self.code, address)?;
-        if i.op == Opcode::Ret {
-            Some(i.argument)
-        } else {
-            None
-        }
+        (i.op == Opcode::Ret).then_some(i.argument)
     }
 
     // Does a STOREFP at this place end its unit?
@@ -52,10 +48,7 @@ impl<'a> Coded<'a> {
         let Some(v) = self.unit_of(at.body) else {
             return false;
         };
-        if at.depth != 0 {
-            return false;
-        }
-        k == i32::from(v.arguments)
+        at.depth == 0 && k == i32::from(v.arguments)
     }
 
     // Is an offset in the frame of a place?

@@ -1,6 +1,5 @@
-use Rattle.std.proofs.Common.{◌≡◌, ◌+◌, ◌-◌, [], ◌∷◌, ℤ, pos, sym, refl, ap, ◌∙◌, inl, inr, arith, w32, w64, of_z, to_z, ◌+ℤ◌}
+use Rattle.std.proofs.Common.{◌≡◌, ◌+◌, pos, sym, refl, ◌∙◌, inl, inr, arith, w32, w64, of_z, to_z, ◌+ℤ◌}
 use Rattle.std.proofs.lemmas.Int.{to_z-of_z, ints}
-use Rattle.plan.specs.Rules.{to}
 use Rattle.plan.proofs.coded.Coded.call.Goals as goal
 
 pub returns-then-from : goal.returns-then-from
