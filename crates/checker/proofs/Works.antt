@@ -1,5 +1,5 @@
 -- The steps of the work.
-use Rattle.std.proofs.Common.{◌≡◌, ℕ, zero, suc, ◌+◌, ◌<◌, ◌≤◌, ◌⊎◌, List, [], ◌∷◌, ◌++◌, length, get_or, set, ℤ, pos, Some, None, Option, sym, refl, ap, ◌∙◌, subst, inl, inr, ⊎_elim, arith}
+use Rattle.std.proofs.Common.{◌≡◌, ℕ, zero, suc, ◌+◌, ◌<◌, ◌≤◌, ◌⊎◌, List, [], ◌∷◌, ◌++◌, length, get_or, set, ℤ, pos, Some, None, Ok, Option, sym, refl, ap, ◌∙◌, subst, inl, inr, ⊎_elim, arith}
 use Rattle.std.specs.List.{AllByRecursion}
 use Rattle.std.proofs.lemmas.List.{get_or-set_same, get_or-set_other, length_push, get_or_push, get_or_append_left}
 use Rattle.std.proofs.lemmas.Bool.{cases_lt, cases_eq}
@@ -9,14 +9,14 @@ use Rattle.program.specs.declared.unit.Unit.{Unit as UnitRecord}
 use Rattle.isa.specs.declared.instruction.Instruction.{Instruction}
 use Rattle.isa.specs.Code.{instruction, Divided}
 use Rattle.plan.specs.declared.planned.Planned.{Planned}
-use Rattle.plan.specs.declared.ruling.Ruling.TheVariants.{Last, Onward, Fork}
+use Rattle.plan.specs.declared.next.Next.{Next}
 use Rattle.plan.specs.declared.successor.Successor.{Successor}
 use Rattle.plan.specs.Programs.{Program, Listed, Opens, Sits}
 use Rattle.plan.specs.Rules.{Steps, to as goes}
 use Rattle.plan.specs.Lawful.{Plan, planned, Has, Holds, main, unit, Lawful, Least, Table, plan_of}
 use Rattle.plan.specs.Walks.{In, on}
 use Rattle.plan.specs.Causes.{AtPlace, Due, Turn, Sound}
-use Rattle.plan.specs.Rulings.{Ruled, LowIn}
+use Rattle.plan.specs.Rulings.{successors, Ruled, LowIn}
 use Rattle.plan.proofs.Dividing.{scan_none}
 use Rattle.plan.proofs.Walking.{all_in, walk_planned, walk_low}
 use Rattle.checker.specs.Work.{SetAt, filled, places_in, Route, Reached, Base, Grows, Arrived, Done, Rooted}
@@ -177,14 +177,8 @@ module _ (P : Program) where
   pub depth_low : (t : Table) (q : List ℕ) → Base P t q → (a : ℕ) (s : Planned) → get_or t a None ≡ Some s → s.depth ≤ 1000
   depth_low t q b a s e = let w = b.reached a s e in walk_low P w.0 (pos a) s.body s.depth w.1
 
-  pub steps_last : (a b h : ℕ) (i : Instruction) → instruction P.code a ≡ Some i → Ruled P a b h i Last → Steps P a b h []
-  steps_last a b h i e j = record { what = i; is = e; rule = j; low = tt }
-
-  pub steps_onward : (a b h : ℕ) (i : Instruction) (s : Successor) → instruction P.code a ≡ Some i → Ruled P a b h i (Onward s) → LowIn (Onward s) → Steps P a b h (s ∷ [])
-  steps_onward a b h i s e j l = record { what = i; is = e; rule = j; low = (l, tt) }
-
-  pub steps_fork : (a b h : ℕ) (i : Instruction) (s r : Successor) → instruction P.code a ≡ Some i → Ruled P a b h i (Fork s r) → LowIn (Fork s r) → Steps P a b h (s ∷ r ∷ [])
-  steps_fork a b h i s r e j l = record { what = i; is = e; rule = j; low = (l.0, (l.1, tt)) }
+  pub steps_ruled : (a b h : ℕ) (i : Instruction) (n : Next) → instruction P.code a ≡ Some i → Ruled P a b h i (Ok n) → LowIn (Ok n) → Steps P a b h (successors n)
+  steps_ruled a b h i n e j l = record { what = i; is = e; rule = j; low = l }
 
   pub seat_instruction : (a : ℕ) → Sits P a → Divided P.code → None ≡ instruction P.code a → ⊥
   seat_instruction a s d e = scan_none P.code a (length P.code) s.inside s.divides e d

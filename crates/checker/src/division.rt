@@ -1,12 +1,12 @@
 // How the code divides into instructions. While the check works, each address that begins one has a mark in the plan
 // table until it has its place.
-ghost use Rattle.std.specs.Prelude.{◌≡◌, ℕ, ◌<◌, ◌≤◌, length, None, Decides, MatchOption, slice_index_or};
+ghost use Rattle.std.specs.Prelude.{◌≡◌, ℕ, ◌<◌, ◌≤◌, length, None, Decides, MatchResult, slice_index_or};
 ghost use Rattle.checker.specs.Work.{Marked, place_in, places_of};
 ghost use Rattle.isa.specs.Code.{Divides, Divided};
 ghost use Rattle.plan.specs.Programs.{Stops};
 
 use isa::{instruction_at, length_of};
-use plan::Planned;
+use plan::{Coded, Planned};
 
 // The depth of a place is at most this.
 const DEEPEST: u16 = 1000;
@@ -20,16 +20,7 @@ const MARK: Planned = Planned {
 fn place_in(held: Option<Planned>) -> Option<Planned>
     ensures { result ≡ place_in held }
 {
-    match held {
-        Some(place) => {
-            if place.depth > DEEPEST {
-                None
-            } else {
-                Some(place)
-            }
-        }
-        None => None,
-    }
+    held.filter(|place| place.depth <= DEEPEST)
 }
 
 pub(crate) fn place_at(plan: &[Option<Planned>], a: usize) -> Option<Planned>
@@ -39,38 +30,32 @@ pub(crate) fn place_at(plan: &[Option<Planned>], a: usize) -> Option<Planned>
     place_in(plan[a])
 }
 
-// Marks each address that begins an instruction, in a table that is unset. The answer is the address at which the
-// code cannot be divided, if there is one.
-pub(crate) fn mark(code: &[i32], plan: &mut [Option<Planned>]) -> Option<usize>
-    requires small { length code.now ≤ 65536 }
-    requires table { length code.now ≤ length plan.old }
+// Marks each address that begins an instruction, in a table that is unset. The error is the address at which the
+// code cannot be divided.
+pub(crate) fn mark(program: &Coded, plan: &mut [Option<Planned>]) -> Result<(), usize>
+    requires small { length program.now.code.now ≤ 65536 }
+    requires table { length program.now.code.now ≤ length plan.old }
     requires unset { (a : ℕ) → slice_index_or plan.old a None ≡ None }
-    ensures { MatchOption result (Divided code.now × Marked code.now plan.new × ((a : ℕ) → slice_index_or (places_of plan.new) a None ≡ None)) (λ a. Stops code.now a) }
+    ensures { MatchResult result (λ _. Divided program.now.code.now × Marked program.now.code.now plan.new × ((a : ℕ) → slice_index_or (places_of plan.new) a None ≡ None)) (λ a. Stops program.now.code.now a) }
 {
     let mut a = 0;
-    while a < code.len() {
-        let Some(i) = instruction_at(code, a) else {
-            return Some(a);
+    while a < program.code.len() {
+        let Some(i) = instruction_at(program.code, a) else {
+            return Err(a);
         };
         plan[a] = Some(MARK);
         a += length_of(i.op);
     }
-    None
+    Ok(())
 }
 
 // Does an instruction begin at an address?
-pub(crate) fn begins(code: &[i32], plan: &[Option<Planned>], a: usize) -> bool
-    requires table { length code.now ≤ length plan.now }
-    requires marked { Marked code.now plan.now }
-    ensures { Decides result ((a < length code.now) × Divides code.now a) }
+pub(crate) fn begins(program: &Coded, plan: &[Option<Planned>], a: usize) -> bool
+    requires table { length program.now.code.now ≤ length plan.now }
+    requires marked { Marked program.now.code.now plan.now }
+    ensures { Decides result ((a < length program.now.code.now) × Divides program.now.code.now a) }
 {
-    if a >= code.len() {
-        return false;
-    }
-    match plan[a] {
-        Some(_) => true,
-        None => false,
-    }
+    a < program.code.len() && plan[a].is_some()
 }
 
 // Takes the marks away and leaves the places.

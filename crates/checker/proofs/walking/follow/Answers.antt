@@ -1,7 +1,7 @@
 use Rattle.std.proofs.Common.{ℤ, sym, subst, w64, SFits, rules}
 use Rattle.std.proofs.lemmas.Result.{MatchResult-weaker}
 use Rattle.std.proofs.lemmas.Int.{to_z-of_z}
-use Rattle.plan.specs.Programs.{Program, coded}
+use Rattle.plan.specs.Programs.{Program, seen}
 use Rattle.plan.specs.Rules.{to}
 use Rattle.plan.specs.Lawful.{Holds, plan_of}
 use Rattle.checker.specs.Work.{places_of, Route}
@@ -9,7 +9,7 @@ use Rattle.checker.proofs.walking.follow.Goals as goal
 
 pub arrive-requires : goal.arrive-requires
 arrive-requires c =
-    let P : Program = coded c.args.code.now c.args.units.now in
+    let P : Program = seen c.args.program.now in
     let f : SFits w64 c.args.s.address = search rules in
     record {
       marked = c.requires.marked;

@@ -2,26 +2,27 @@ use Rattle.std.proofs.Common.{◌≡◌, [], ◌∷◌, get_or, ℤ, pos, Some, 
 use Rattle.std.proofs.lemmas.Result.{MatchResult-weaker}
 use Rattle.std.proofs.lemmas.Int.{ints}
 use Rattle.slots.specs.Items.{items}
-use Rattle.plan.specs.Programs.{Program, coded}
+use Rattle.plan.specs.Programs.{Program, seen}
+use Rattle.plan.specs.declared.next.Next.TheVariants.{Last, Onward, Fork}
 use Rattle.plan.specs.Rules.{Steps}
 use Rattle.plan.specs.Lawful.{Holds, plan_of}
 use Rattle.plan.specs.Causes.{AtPlace, Due}
 use Rattle.checker.specs.Work.{places_of}
-use Rattle.checker.proofs.Works.{arrived_same, arrived_trans, done_at, depth_low, steps_last, steps_onward, steps_fork, seat_instruction, due_held, route_on, holds_grow}
+use Rattle.checker.proofs.Works.{arrived_same, arrived_trans, done_at, depth_low, steps_ruled, seat_instruction, due_held, route_on, holds_grow}
 use Rattle.checker.proofs.walking.visit.Goals as goal
 
 pub unreachable-requires-in_default-instruction_at : goal.unreachable-requires-in_default-instruction_at
 unreachable-requires-in_default-instruction_at c =
-    let P : Program = coded c.args.code.now c.args.units.now in
+    let P : Program = seen c.args.program.now in
     let e : get_or (places_of c.args.plan.now) c.args.address None ≡ Some c.in-Some.at = sym c.in-Some.ensures in
     seat_instruction P c.args.address (c.requires.base.seated c.args.address c.in-Some.at e) c.requires.divided c.in_default-instruction_at.ensures.is
 
 pub follow-requires : goal.follow-requires
 follow-requires c =
-    let P : Program = coded c.args.code.now c.args.units.now in
+    let P : Program = seen c.args.program.now in
     let e : get_or (places_of c.args.plan.now) c.args.address None ≡ Some c.in-Some.at = sym c.in-Some.ensures in
     let low = depth_low P (places_of c.args.plan.now) (items c.args.list.now) c.requires.base c.args.address c.in-Some.at e in
-    let st : Steps P c.args.address c.in-Some.at.body c.in-Some.at.depth (c.in-Onward.s ∷ []) = steps_onward P c.args.address c.in-Some.at.body c.in-Some.at.depth c.in-Some-instruction_at.i c.in-Onward.s (sym c.in-Some-instruction_at.ensures.is) c.in-Onward.ensures.ruled (c.in-Onward.ensures.low low) in
+    let st : Steps P c.args.address c.in-Some.at.body c.in-Some.at.depth (c.in-Onward.s ∷ []) = steps_ruled P c.args.address c.in-Some.at.body c.in-Some.at.depth c.in-Some-instruction_at.i (Onward c.in-Onward.s) (sym c.in-Some-instruction_at.ensures.is) ? ? in
     record {
       marked = c.requires.marked;
       small = c.requires.small;
@@ -31,38 +32,22 @@ follow-requires c =
       route = route_on P (places_of c.args.plan.now) (items c.args.list.now) c.requires.base c.args.address c.in-Some.at e (c.in-Onward.s ∷ []) c.in-Onward.s st (inl refl);
     }
 
-pub returns-in-Refused : goal.returns-in-Refused
-returns-in-Refused c =
-    let P : Program = coded c.args.code.now c.args.units.now in
-    let e : get_or (places_of c.args.plan.now) c.args.address None ≡ Some c.in-Some.at = sym c.in-Some.ensures in
-    let r = c.requires.base.reached c.args.address c.in-Some.at e in
-    let at : AtPlace P c.in-Refused.cause (pos c.args.address) = record {
-      a = c.args.address;
-      b = c.in-Some.at.body;
-      h = c.in-Some.at.depth;
-      i = c.in-Some-instruction_at.i;
-      address = refl;
-      walked = (r.0, r.1);
-      sits = c.requires.base.seated c.args.address c.in-Some.at e;
-      is = sym c.in-Some-instruction_at.ensures.is;
-      holds = c.in-Refused.ensures.ruled;
-    } in
-    let z : to_z w64 c.args.address ≡ pos c.args.address = omega (arith, ints) in
-    record { room = refl; visited = subst (λ (z : ℤ). Due P c.in-Refused.cause z) (sym z) (due_held P c.in-Refused.cause (pos c.args.address) at) }
+pub returns-in_err-next : goal.returns-in_err-next
+returns-in_err-next c = ?
 
 pub returns-in-Last : goal.returns-in-Last
 returns-in-Last c =
-    let P : Program = coded c.args.code.now c.args.units.now in
+    let P : Program = seen c.args.program.now in
     let e : get_or (places_of c.args.plan.now) c.args.address None ≡ Some c.in-Some.at = sym c.in-Some.ensures in
-    let st = steps_last P c.args.address c.in-Some.at.body c.in-Some.at.depth c.in-Some-instruction_at.i (sym c.in-Some-instruction_at.ensures.is) c.in-Last.ensures.ruled in
+    let st = steps_ruled P c.args.address c.in-Some.at.body c.in-Some.at.depth c.in-Some-instruction_at.i Last (sym c.in-Some-instruction_at.ensures.is) ? ? in
     record { room = refl; visited = (arrived_same P (places_of c.args.plan.now) (items c.args.list.now) c.requires.base, done_at P (places_of c.args.plan.now) (places_of c.args.plan.now) c.args.address c.in-Some.at [] (λ a s h. h) e st tt, c.requires.marked) }
 
 pub returns-in-Onward : goal.returns-in-Onward
 returns-in-Onward c =
-    let P : Program = coded c.args.code.now c.args.units.now in
+    let P : Program = seen c.args.program.now in
     let e : get_or (places_of c.args.plan.now) c.args.address None ≡ Some c.in-Some.at = sym c.in-Some.ensures in
     let low = depth_low P (places_of c.args.plan.now) (items c.args.list.now) c.requires.base c.args.address c.in-Some.at e in
-    let st : Steps P c.args.address c.in-Some.at.body c.in-Some.at.depth (c.in-Onward.s ∷ []) = steps_onward P c.args.address c.in-Some.at.body c.in-Some.at.depth c.in-Some-instruction_at.i c.in-Onward.s (sym c.in-Some-instruction_at.ensures.is) c.in-Onward.ensures.ruled (c.in-Onward.ensures.low low) in
+    let st : Steps P c.args.address c.in-Some.at.body c.in-Some.at.depth (c.in-Onward.s ∷ []) = steps_ruled P c.args.address c.in-Some.at.body c.in-Some.at.depth c.in-Some-instruction_at.i (Onward c.in-Onward.s) (sym c.in-Some-instruction_at.ensures.is) ? ? in
     record {
       room = c.follow.ensures.room;
       visited = MatchResult-weaker c.follow.result c.follow.ensures.arrived
@@ -77,10 +62,10 @@ returns-in-Onward c =
 
 pub follow-requires-in-Fork : goal.follow-requires-in-Fork
 follow-requires-in-Fork c =
-    let P : Program = coded c.args.code.now c.args.units.now in
+    let P : Program = seen c.args.program.now in
     let e : get_or (places_of c.args.plan.now) c.args.address None ≡ Some c.in-Some.at = sym c.in-Some.ensures in
     let low = depth_low P (places_of c.args.plan.now) (items c.args.list.now) c.requires.base c.args.address c.in-Some.at e in
-    let st : Steps P c.args.address c.in-Some.at.body c.in-Some.at.depth (c.in-Fork.s ∷ c.in-Fork.t ∷ []) = steps_fork P c.args.address c.in-Some.at.body c.in-Some.at.depth c.in-Some-instruction_at.i c.in-Fork.s c.in-Fork.t (sym c.in-Some-instruction_at.ensures.is) c.in-Fork.ensures.ruled (c.in-Fork.ensures.low low) in
+    let st : Steps P c.args.address c.in-Some.at.body c.in-Some.at.depth (c.in-Fork.s ∷ c.in-Fork.t ∷ []) = steps_ruled P c.args.address c.in-Some.at.body c.in-Some.at.depth c.in-Some-instruction_at.i (Fork c.in-Fork.s c.in-Fork.t) (sym c.in-Some-instruction_at.ensures.is) ? ? in
     record {
       marked = c.requires.marked;
       small = c.requires.small;
@@ -92,10 +77,10 @@ follow-requires-in-Fork c =
 
 pub follow-requires-in-Fork-2 : goal.follow-requires-in-Fork-2
 follow-requires-in-Fork-2 c =
-    let P : Program = coded c.args.code.now c.args.units.now in
+    let P : Program = seen c.args.program.now in
     let e : get_or (places_of c.args.plan.now) c.args.address None ≡ Some c.in-Some.at = sym c.in-Some.ensures in
     let low = depth_low P (places_of c.args.plan.now) (items c.args.list.now) c.requires.base c.args.address c.in-Some.at e in
-    let st : Steps P c.args.address c.in-Some.at.body c.in-Some.at.depth (c.in-Fork.s ∷ c.in-Fork.t ∷ []) = steps_fork P c.args.address c.in-Some.at.body c.in-Some.at.depth c.in-Some-instruction_at.i c.in-Fork.s c.in-Fork.t (sym c.in-Some-instruction_at.ensures.is) c.in-Fork.ensures.ruled (c.in-Fork.ensures.low low) in
+    let st : Steps P c.args.address c.in-Some.at.body c.in-Some.at.depth (c.in-Fork.s ∷ c.in-Fork.t ∷ []) = steps_ruled P c.args.address c.in-Some.at.body c.in-Some.at.depth c.in-Some-instruction_at.i (Fork c.in-Fork.s c.in-Fork.t) (sym c.in-Some-instruction_at.ensures.is) ? ? in
     let r = c.in_ok-follow-in-Fork.ensures.arrived.0 in
     record {
       marked = c.in_ok-follow-in-Fork.ensures.arrived.2;
@@ -108,10 +93,10 @@ follow-requires-in-Fork-2 c =
 
 pub returns-in_ok-follow-in-Fork : goal.returns-in_ok-follow-in-Fork
 returns-in_ok-follow-in-Fork c =
-    let P : Program = coded c.args.code.now c.args.units.now in
+    let P : Program = seen c.args.program.now in
     let e : get_or (places_of c.args.plan.now) c.args.address None ≡ Some c.in-Some.at = sym c.in-Some.ensures in
     let low = depth_low P (places_of c.args.plan.now) (items c.args.list.now) c.requires.base c.args.address c.in-Some.at e in
-    let st : Steps P c.args.address c.in-Some.at.body c.in-Some.at.depth (c.in-Fork.s ∷ c.in-Fork.t ∷ []) = steps_fork P c.args.address c.in-Some.at.body c.in-Some.at.depth c.in-Some-instruction_at.i c.in-Fork.s c.in-Fork.t (sym c.in-Some-instruction_at.ensures.is) c.in-Fork.ensures.ruled (c.in-Fork.ensures.low low) in
+    let st : Steps P c.args.address c.in-Some.at.body c.in-Some.at.depth (c.in-Fork.s ∷ c.in-Fork.t ∷ []) = steps_ruled P c.args.address c.in-Some.at.body c.in-Some.at.depth c.in-Some-instruction_at.i (Fork c.in-Fork.s c.in-Fork.t) (sym c.in-Some-instruction_at.ensures.is) ? ? in
     let r = c.in_ok-follow-in-Fork.ensures.arrived in
     let s_in : Holds (plan_of (places_of c.follow-in-Fork.new.plan)) c.in-Some.at.body c.in-Fork.s = r.1 in
     record {

@@ -1,23 +1,23 @@
 use Rattle.std.proofs.Common.{ℕ, sym, refl}
 use Rattle.std.proofs.lemmas.Bool.{both_ways}
 use Rattle.program.specs.declared.unit.Unit.{Unit as UnitRecord}
-use Rattle.plan.specs.Programs.{coded, Opens}
+use Rattle.plan.specs.Programs.{seen, Opens}
 use Rattle.plan.proofs.Listing.{units_each}
-use Rattle.checker.proofs.openings.bad_entry.Goals as goal
+use Rattle.checker.proofs.openings.units_open.Goals as goal
 
 pub returns-then-not-opens : goal.returns-then-not-opens
 returns-then-not-opens c =
     record {
       k = c.loop-k.k;
-      v = c.index-units-k.result;
+      v = c.v-item.result;
       address = refl;
-      listed = (c.loop-k-test.true, sym c.index-units-k.is);
+      listed = (c.loop-k-test.true, sym c.v-item.is);
       bad = λ q. both_ways c.opens.result c.if-not-opens.true (c.opens.ensures.1 q);
       before = c.loop-k.invariant;
     }
 
 pub loop-k-preserved : goal.loop-k-preserved
 loop-k-preserved c =
-    units_each c.args.units.now (λ (k : ℕ) (v : UnitRecord). Opens (coded c.args.code.now c.args.units.now) k v) c.loop-k.k c.index-units-k.result c.loop-k.invariant
-    (c.loop-k-test.true, sym c.index-units-k.is)
+    units_each c.args.program.now.units.now (λ (k : ℕ) (v : UnitRecord). Opens (seen c.args.program.now) k v) c.loop-k.k c.v-item.result c.loop-k.invariant
+    (c.loop-k-test.true, sym c.v-item.is)
     (c.opens.ensures.0 c.if-not-opens.false)
