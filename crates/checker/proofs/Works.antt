@@ -1,5 +1,5 @@
 -- The steps of the work.
-use Rattle.std.proofs.Common.{◌≡◌, ℕ, zero, suc, ◌+◌, ◌<◌, ◌≤◌, ◌⊎◌, List, [], ◌∷◌, ◌++◌, length, get_or, set, ℤ, pos, Some, None, Ok, Option, sym, refl, ap, ◌∙◌, subst, inl, inr, ⊎_elim, arith}
+use Rattle.std.proofs.Common.{◌≡◌, ℕ, zero, suc, ◌+◌, ◌<◌, ◌≤◌, ◌⊎◌, List, [], ◌∷◌, ◌++◌, length, get_or, set, ℤ, pos, Some, None, Ok, Err, Option, Result, MatchResult, sym, refl, ap, ◌∙◌, subst, inl, inr, ⊎_elim, arith}
 use Rattle.std.specs.List.{AllByRecursion}
 use Rattle.std.proofs.lemmas.List.{get_or-set_same, get_or-set_other, length_push, get_or_push, get_or_append_left}
 use Rattle.std.proofs.lemmas.Bool.{cases_lt, cases_eq}
@@ -9,17 +9,20 @@ use Rattle.program.specs.declared.unit.Unit.{Unit as UnitRecord}
 use Rattle.isa.specs.declared.instruction.Instruction.{Instruction}
 use Rattle.isa.specs.Code.{instruction, Divided}
 use Rattle.plan.specs.declared.planned.Planned.{Planned}
-use Rattle.plan.specs.declared.next.Next.{Next}
 use Rattle.plan.specs.declared.successor.Successor.{Successor}
 use Rattle.plan.specs.Programs.{Program, Listed, Opens, Sits}
 use Rattle.plan.specs.Rules.{Steps, to as goes}
 use Rattle.plan.specs.Lawful.{Plan, planned, Has, Holds, main, unit, Lawful, Least, Table, plan_of}
 use Rattle.plan.specs.Walks.{In, on}
 use Rattle.plan.specs.Causes.{AtPlace, Due, Turn, Sound}
-use Rattle.plan.specs.Rulings.{successors, Ruled, LowIn}
+use Rattle.plan.specs.Rulings.{Ruling, successors, Ruled, LowIn}
 use Rattle.plan.proofs.Dividing.{scan_none}
 use Rattle.plan.proofs.Walking.{all_in, walk_planned, walk_low}
-use Rattle.checker.specs.Work.{SetAt, filled, places_in, Route, Reached, Base, Grows, Arrived, Done, Rooted}
+use Rattle.checker.specs.declared.finding.Finding.{Finding}
+use Rattle.checker.specs.declared.work.Work.{Work}
+use Rattle.checker.specs.Progress.{program, places, came, Underway, Ready, Moved}
+use Rattle.std.specs.Result.{IsErrAnd}
+use Rattle.checker.specs.Work.{SetAt, filled, places_in, places_of, Route, Reached, Base, Grows, Arrived, Done, Rooted}
 
 filled_le : (o : Option Planned) → filled o ≤ 1
 filled_le None = omega arith
@@ -177,9 +180,6 @@ module _ (P : Program) where
   pub depth_low : (t : Table) (q : List ℕ) → Base P t q → (a : ℕ) (s : Planned) → get_or t a None ≡ Some s → s.depth ≤ 1000
   depth_low t q b a s e = let w = b.reached a s e in walk_low P w.0 (pos a) s.body s.depth w.1
 
-  pub steps_ruled : (a b h : ℕ) (i : Instruction) (n : Next) → instruction P.code a ≡ Some i → Ruled P a b h i (Ok n) → LowIn (Ok n) → Steps P a b h (successors n)
-  steps_ruled a b h i n e j l = record { what = i; is = e; rule = j; low = l }
-
   pub seat_instruction : (a : ℕ) → Sits P a → Divided P.code → None ≡ instruction P.code a → ⊥
   seat_instruction a s d e = scan_none P.code a (length P.code) s.inside s.divides e d
 
@@ -194,6 +194,14 @@ module _ (P : Program) where
   due_held OutsideFrame t x = x
   due_held TooDeep t x = x
   due_held DifferentWays t x = absurd x.holds
+
+  -- of the ruling at a place: the step that it gives, or its cause
+  pub ruling_said : (t : Table) (q : List ℕ) → Base P t q → (a : ℕ) (s : Planned) → get_or t a None ≡ Some s → (i : Instruction) → instruction P.code a ≡ Some i → (r : Ruling) → Ruled P a s.body s.depth i r → LowIn r →
+      MatchResult r (λ n. Steps P a s.body s.depth (successors n)) (λ c. Due P c (pos a))
+  ruling_said t q b a s e i is (Ok n) g l = record { what = i; is = is; rule = g; low = l }
+  ruling_said t q b a s e i is (Err c) g l =
+      let w = b.reached a s e in
+      due_held c (pos a) (record { a = a; b = s.body; h = s.depth; i = i; address = refl; walked = (w.0, w.1); sits = b.seated a s e; is = is; holds = g })
 
   pub rooted : (t : Table) → Has (plan_of t) 0 0 0 → ((k : ℕ) (v : UnitRecord) → Listed P.units k v → Has (plan_of t) (v.entry + 3) (suc k) 0) → Rooted P t
   rooted t z f a b main = z
@@ -244,3 +252,26 @@ turned P ShallowDepth t s d = s
 turned P OutsideFrame t s d = s
 turned P TooDeep t s d = s
 turned P DifferentWays t s d = s
+
+-- what is said of a result, of the one that `map_err` makes of it
+pub mapped : {X Y Z : Type 0} (r : Result X Y) (q : Result X Z) (P : X → Type 0) (Q : Y → Type 0) (R : Z → Type 0) (L : Y → Z → Type 0) → MatchResult r (λ x. q ≡ Ok x) (λ y. IsErrAnd q (L y)) → MatchResult r P Q → ((y : Y) (z : Z) → L y z → Q y → R z) → MatchResult q P R
+mapped (Ok x) q P Q R L m p f = subst (λ u. MatchResult u P R) (sym m) p
+mapped (Err y) (Ok x) P Q R L m p f = absurd m
+mapped (Err y) (Err z) P Q R L m p f = f y z m p
+
+-- the work goes on from where calls have left it
+pub ready_after : (P : Program) (v w : Work) → Moved P v w → Ready w
+ready_after P v w m = subst (λ (Q : Program). Underway Q w) (sym m.is) (record { is = m.is; marked = m.marked; base = m.arrived.base })
+
+pub moved_same : (w : Work) → Ready w → Moved (program w) w w
+moved_same w r = record { is = refl; marked = r.marked; arrived = arrived_same (program w) (places w) (came w) r.base }
+
+pub moved_trans : (P : Program) (u v w : Work) → Moved P u v → Moved (program v) v w → Moved P u w
+moved_trans P u v w a b =
+    let c = subst (λ (Q : Program). Moved Q v w) a.is b in
+    record { is = c.is; marked = c.marked; arrived = arrived_trans P (places u) (places v) (places w) (came u) (came v) (came w) a.arrived c.arrived }
+
+-- at the end of the work, on the table t that was lent to it
+pub explored : (P : Program) (t u : Table) (r : Result (Unit {0}) Finding) → t ≡ u → Sound P → MatchResult r (λ _. Least P (plan_of (places_of u))) (λ f. Due P f.cause f.address) → MatchResult r (λ _. Least P (plan_of (places_of t))) (λ f. Due P f.cause f.address × Turn P f.cause)
+explored P t u (Ok x) e s m = subst (λ (z : Table). Least P (plan_of (places_of z))) (sym e) m
+explored P t u (Err f) e s m = (m, turned P f.cause f.address s m)

@@ -8,12 +8,10 @@ ghost use Rattle.program.specs.declared.fault.Fault.TheVariants.{Check};
 
 use crate::division::{mark, unmark};
 use crate::finding::Finding;
-use crate::openings::units_open;
 use crate::passed::Passed;
-use crate::walking::{begin, drain};
+use crate::work::Work;
 use plan::{Coded, Planned};
 use program::{Assembled, CheckCause, Counts, Fault, Place, Refused, Unit};
-use slots::SlotList;
 
 // Makes the least lawful plan in a table that is unset, or finds why there is none. Marks are left beside the places.
 fn explore(
@@ -32,13 +30,13 @@ fn explore(
         cause: CheckCause::NoDivision,
         address: a as i64,
     })?;
-    units_open(program, plan).map_err(|e| Finding {
+    let mut work = Work::new(*program, plan, visits);
+    work.units_open().map_err(|e| Finding {
         cause: CheckCause::BadEntry,
         address: i64::from(e),
     })?;
-    let mut list = SlotList::new(visits, program.code.len());
-    begin(program, plan, &mut list)?;
-    drain(program, plan, &mut list)
+    work.begin()?;
+    work.drain()
 }
 
 fn refuse(program: Assembled, cause: CheckCause, place: Place) -> Refused<Assembled>

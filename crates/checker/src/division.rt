@@ -1,12 +1,15 @@
 // How the code divides into instructions. While the check works, each address that begins one has a mark in the plan
 // table until it has its place.
 ghost use Rattle.std.specs.Prelude.{◌≡◌, ℕ, ◌<◌, ◌≤◌, length, None, Decides, MatchResult, slice_index_or};
+ghost use Rattle.checker.specs.Progress.{Ready, Underway, places};
 ghost use Rattle.checker.specs.Work.{Marked, place_in, places_of};
 ghost use Rattle.isa.specs.Code.{Divides, Divided};
-ghost use Rattle.plan.specs.Programs.{Stops};
+ghost use Rattle.plan.specs.Programs.{Stops, seen};
 
+use crate::work::Work;
 use isa::{instruction_at, length_of};
 use plan::{Coded, Planned};
+use slots::SlotList;
 
 // The depth of a place is at most this.
 const DEEPEST: u16 = 1000;
@@ -21,13 +24,6 @@ fn place_in(held: Option<Planned>) -> Option<Planned>
     ensures { result ≡ place_in held }
 {
     held.filter(|place| place.depth <= DEEPEST)
-}
-
-pub(crate) fn place_at(plan: &[Option<Planned>], a: usize) -> Option<Planned>
-    requires { a < length plan.now }
-    ensures { result ≡ slice_index_or (places_of plan.now) a None }
-{
-    place_in(plan[a])
 }
 
 // Marks each address that begins an instruction, in a table that is unset. The error is the address at which the
@@ -49,20 +45,56 @@ pub(crate) fn mark(program: &Coded, plan: &mut [Option<Planned>]) -> Result<(), 
     Ok(())
 }
 
-// Does an instruction begin at an address?
-pub(crate) fn begins(program: &Coded, plan: &[Option<Planned>], a: usize) -> bool
-    requires table { length program.now.code.now ≤ length plan.now }
-    requires marked { Marked program.now.code.now plan.now }
-    ensures { Decides result ((a < length program.now.code.now) × Divides program.now.code.now a) }
-{
-    a < program.code.len() && plan[a].is_some()
-}
-
 // Takes the marks away and leaves the places.
 pub(crate) fn unmark(plan: &mut [Option<Planned>])
     ensures { plan.new ≡ places_of plan.old }
 {
     for held in plan.iter_mut() {
         *held = place_in(*held);
+    }
+}
+
+impl<'p, 't, 'v> Work<'p, 't, 'v> {
+    // The work before its first address, on a table that is marked.
+    pub(crate) fn new(
+        program: Coded<'p>,
+        plan: &'t mut [Option<Planned>],
+        visits: &'v mut [u32],
+    ) -> Work<'p, 't, 'v>
+        requires small { length program.code.now ≤ 65536 }
+        requires few { length program.units.now ≤ 64 }
+        requires table { length program.code.now ≤ length plan.old }
+        requires slots { length program.code.now ≤ length visits.old }
+        requires marked { Marked program.code.now plan.old }
+        requires bare { (a : ℕ) → slice_index_or (places_of plan.old) a None ≡ None }
+        ensures lender { result.plan.ghost_name ≡ plan.entry.ghost_name }
+        ensures visits { result.list.slots.ghost_name ≡ visits.entry.ghost_name }
+        ensures ready { Underway (seen program.entry) result }
+    {
+        let list = SlotList::new(visits, program.code.len());
+        Work {
+            program,
+            plan,
+            list,
+        }
+    }
+
+    pub(crate) fn place_at(&self, a: usize) -> Option<Planned>
+        requires { a < length self.now.plan.now }
+        ensures { result ≡ slice_index_or (places self.now) a None }
+    {
+        place_in(self.plan[a])
+    }
+
+    // Does an instruction begin at an address?
+    pub(crate) fn begins(&self, a: usize) -> bool
+        requires { Ready self.now }
+        ensures { Decides result ((a < length self.now.program.code.now) × Divides self.now.program.code.now a) }
+    {
+        if a >= self.program.code.len() {
+            return false;
+        }
+        let held = self.plan[a];
+        held.is_some()
     }
 }

@@ -1,188 +1,144 @@
 // The walks from the roots, one address at a time.
+ghost use Rattle.std.specs.Prelude.{◌≡◌, ℕ, ◌<◌, length, pos, Some, None, MatchOption, MatchResult, slice_index_or};
+ghost use Rattle.checker.specs.Progress.{Ready, SameLent, Moved, places, program};
+ghost use Rattle.checker.specs.Work.{SetAt, Route, Done, Rooted};
 ghost use Rattle.isa.specs.Code.{Divided};
-ghost use Rattle.std.specs.Prelude.{◌≡◌, ℕ, ◌<◌, ◌≤◌, length, pos, Decides, MatchOption, MatchResult};
-ghost use Rattle.checker.specs.Work.{SetAt, Base, Route, Arrived, Done, Rooted, Marked, places_of};
 ghost use Rattle.plan.specs.Causes.{Due};
 ghost use Rattle.plan.specs.Lawful.{Holds, Least, plan_of};
-ghost use Rattle.plan.specs.Programs.{seen, Opened, Sits};
-ghost use Rattle.plan.specs.Rules.{to as goes};
-ghost use Rattle.slots.specs.Items.{items, room};
+ghost use Rattle.plan.specs.Programs.{Opened, Sits};
+ghost use Rattle.plan.specs.Rules.{Steps, to as goes};
+ghost use Rattle.plan.specs.Rulings.{successors};
 
-use crate::division::place_at;
 use crate::finding::Finding;
-use crate::openings::sits;
+use crate::work::Work;
 use isa::instruction_at;
-use plan::{Coded, Next, Planned, Successor};
+use plan::{Next, Planned, Successor};
 use program::CheckCause;
-use slots::SlotList;
 
-// The address, if it may have a place.
-fn seat(program: &Coded, plan: &[Option<Planned>], to: i64) -> Option<usize>
-    requires small { length program.now.code.now ≤ 65536 }
-    requires table { length program.now.code.now ≤ length plan.now }
-    requires marked { Marked program.now.code.now plan.now }
-    ensures { MatchOption result ((a : ℕ) → to ≡ pos a → Sits (seen program.now) a → ⊥) (λ a. (to ≡ pos a) × Sits (seen program.now) a) }
-{
-    let a = usize::try_from(to).ok()?;
-    sits(program, plan, a).then_some(a)
-}
+impl Work<'_, '_, '_> {
+    // The address, if it may have a place.
+    fn seat(&self, to: i64) -> Option<usize>
+        requires { Ready self.now }
+        ensures { MatchOption result ((a : ℕ) → to ≡ pos a → Sits (program self.now) a → ⊥) (λ a. (to ≡ pos a) × Sits (program self.now) a) }
+    {
+        let a = usize::try_from(to).ok()?;
+        self.sits(a).then_some(a)
+    }
 
-// Brings a walk to an address: it gets its place, or has it.
-fn arrive(
-    program: &Coded,
-    plan: &mut [Option<Planned>],
-    list: &mut SlotList<u32>,
-    to: i64,
-    at: Planned,
-) -> Result<(), Finding>
-    requires small { length program.now.code.now ≤ 65536 }
-    requires table { length program.now.code.now ≤ length plan.old }
-    requires slots { length program.now.code.now ≤ room list.old }
-    requires marked { Marked program.now.code.now plan.old }
-    requires base { Base (seen program.now) (places_of plan.old) (items list.old) }
-    requires route { Route (seen program.now) (places_of plan.old) to at.body at.depth }
-    ensures room { room list.new ≡ room list.old }
-    ensures arrived { MatchResult result (λ _. Arrived (seen program.now) (places_of plan.old) (places_of plan.new) (items list.old) (items list.new) × Holds (plan_of (places_of plan.new)) at.body (goes to at.depth) × Marked program.now.code.now plan.new) (λ f. Due (seen program.now) f.cause f.address) }
-{
-    let Some(a) = seat(program, plan, to) else {
-        return Err(Finding {
-            cause: CheckCause::NoInstruction,
-            address: to,
-        });
-    };
-    match place_at(plan, a) {
-        Some(other) => {
-            if other == at {
-                Ok(())
-            } else {
-                Err(Finding {
-                    cause: CheckCause::DifferentWays,
-                    address: to,
-                })
+    // Brings a walk to an address: it gets its place, or has it.
+    fn arrive(&mut self, to: i64, at: Planned) -> Result<(), Finding>
+        requires ready { Ready self.old }
+        requires route { Route (program self.old) (places self.old) to at.body at.depth }
+        ensures lent { SameLent self.old self.new }
+        ensures arrived { MatchResult result (λ _. Moved (program self.old) self.old self.new × Holds (plan_of (places self.new)) at.body (goes to at.depth)) (λ f. Due (program self.old) f.cause f.address) }
+    {
+        let Some(a) = self.seat(to) else {
+            return Err(Finding {
+                cause: CheckCause::NoInstruction,
+                address: to,
+            });
+        };
+        match self.place_at(a) {
+            Some(other) => {
+                if other == at {
+                    Ok(())
+                } else {
+                    Err(Finding {
+                        cause: CheckCause::DifferentWays,
+                        address: to,
+                    })
+                }
             }
-        }
-        None => {
-            plan[a] = Some(at);
-            match list.push(a as u32) {
-                Ok(()) => Ok(()),
-                Err(_) => unreachable(),
+            None => {
+                self.plan[a] = Some(at);
+                match self.list.push(a as u32) {
+                    Ok(()) => Ok(()),
+                    Err(_) => unreachable(),
+                }
             }
         }
     }
-}
 
-// Brings a walk on to a successor, in the same body.
-fn follow(
-    program: &Coded,
-    plan: &mut [Option<Planned>],
-    list: &mut SlotList<u32>,
-    body: u8,
-    s: Successor,
-) -> Result<(), Finding>
-    requires small { length program.now.code.now ≤ 65536 }
-    requires table { length program.now.code.now ≤ length plan.old }
-    requires slots { length program.now.code.now ≤ room list.old }
-    requires marked { Marked program.now.code.now plan.old }
-    requires base { Base (seen program.now) (places_of plan.old) (items list.old) }
-    requires route { Route (seen program.now) (places_of plan.old) s.address body s.depth }
-    ensures room { room list.new ≡ room list.old }
-    ensures arrived { MatchResult result (λ _. Arrived (seen program.now) (places_of plan.old) (places_of plan.new) (items list.old) (items list.new) × Holds (plan_of (places_of plan.new)) body s × Marked program.now.code.now plan.new) (λ f. Due (seen program.now) f.cause f.address) }
-{
-    let depth = s.depth;
-    arrive(program, plan, list, s.address, Planned { body, depth })
-}
+    // Brings a walk on to a successor, in the same body.
+    fn follow(&mut self, body: u8, s: Successor) -> Result<(), Finding>
+        requires ready { Ready self.old }
+        requires route { Route (program self.old) (places self.old) s.address body s.depth }
+        ensures lent { SameLent self.old self.new }
+        ensures arrived { MatchResult result (λ _. Moved (program self.old) self.old self.new × Holds (plan_of (places self.new)) body s) (λ f. Due (program self.old) f.cause f.address) }
+    {
+        let depth = s.depth;
+        self.arrive(s.address, Planned { body, depth })
+    }
 
-// Brings the walks to the place at an address on to its successors.
-fn visit(
-    program: &Coded,
-    plan: &mut [Option<Planned>],
-    list: &mut SlotList<u32>,
-    address: u32,
-) -> Result<(), Finding>
-    requires small { length program.now.code.now ≤ 65536 }
-    requires table { length program.now.code.now ≤ length plan.old }
-    requires slots { length program.now.code.now ≤ room list.old }
-    requires marked { Marked program.now.code.now plan.old }
-    requires base { Base (seen program.now) (places_of plan.old) (items list.old) }
-    requires inside { address < length program.now.code.now }
-    requires placed { SetAt (places_of plan.old) address }
-    requires divided { Divided program.now.code.now }
-    ensures room { room list.new ≡ room list.old }
-    ensures visited { MatchResult result (λ _. Arrived (seen program.now) (places_of plan.old) (places_of plan.new) (items list.old) (items list.new) × Done (seen program.now) (places_of plan.new) address × Marked program.now.code.now plan.new) (λ f. Due (seen program.now) f.cause f.address) }
-{
-    let a = address as usize;
-    let Some(at) = place_at(plan, a) else {
-        return unreachable();
-    };
-    let Some(i) = instruction_at(program.code, a) else {
-        return unreachable();
-    };
-    let next = program.rule_at(address, at, i).map_err(|cause| Finding {
-        cause,
-        address: i64::from(address),
-    })?;
-    match next {
-        Next::Last => Ok(()),
-        Next::Onward(s) => follow(program, plan, list, at.body, s),
-        Next::Fork(s, t) => {
-            follow(program, plan, list, at.body, s)?;
-            follow(program, plan, list, at.body, t)
+    // What comes after the place at an address.
+    fn after(&self, address: u32, at: Planned) -> Result<Next, Finding>
+        requires ready { Ready self.now }
+        requires placed { slice_index_or (places self.now) address None ≡ Some at }
+        requires divided { Divided self.now.program.code.now }
+        ensures { MatchResult result (λ n. Steps (program self.now) address at.body at.depth (successors n)) (λ f. Due (program self.now) f.cause f.address) }
+    {
+        let program = self.program;
+        let Some(i) = instruction_at(program.code, address as usize) else {
+            return unreachable();
+        };
+        program.rule_at(address, at, i).map_err(|cause| Finding {
+            cause,
+            address: i64::from(address),
+        })
+    }
+
+    // Brings the walks to the place at an address on to its successors.
+    fn visit(&mut self, address: u32) -> Result<(), Finding>
+        requires ready { Ready self.old }
+        requires inside { address < length self.old.program.code.now }
+        requires placed { SetAt (places self.old) address }
+        requires divided { Divided self.old.program.code.now }
+        ensures lent { SameLent self.old self.new }
+        ensures visited { MatchResult result (λ _. Moved (program self.old) self.old self.new × Done (program self.old) (places self.new) address) (λ f. Due (program self.old) f.cause f.address) }
+    {
+        let Some(at) = self.place_at(address as usize) else {
+            return unreachable();
+        };
+        let next = self.after(address, at)?;
+        match next {
+            Next::Last => Ok(()),
+            Next::Onward(s) => self.follow(at.body, s),
+            Next::Fork(s, t) => {
+                self.follow(at.body, s)?;
+                self.follow(at.body, t)
+            }
         }
     }
-}
 
-// Brings the walks of no step to the roots: 0, and the address after each opening.
-pub(crate) fn begin(
-    program: &Coded,
-    plan: &mut [Option<Planned>],
-    list: &mut SlotList<u32>,
-) -> Result<(), Finding>
-    requires small { length program.now.code.now ≤ 65536 }
-    requires few { length program.now.units.now ≤ 64 }
-    requires table { length program.now.code.now ≤ length plan.old }
-    requires slots { length program.now.code.now ≤ room list.old }
-    requires marked { Marked program.now.code.now plan.old }
-    requires base { Base (seen program.now) (places_of plan.old) (items list.old) }
-    ensures room { length program.now.code.now ≤ room list.new }
-    ensures begun { MatchResult result (λ _. Base (seen program.now) (places_of plan.new) (items list.new) × Rooted (seen program.now) (places_of plan.new) × Marked program.now.code.now plan.new) (λ f. Due (seen program.now) f.cause f.address) }
-{
-    arrive(program, plan, list, 0, Planned { body: 0, depth: 0 })?;
-    for (k, v) in program.units.iter().enumerate() {
-        let to = v.entry as i64 + 3;
-        arrive(
-            program,
-            plan,
-            list,
-            to,
-            Planned {
-                body: k as u8 + 1,
-                depth: 0,
-            },
-        )?;
+    // Brings the walks of no step to the roots: 0, and the address after each opening.
+    pub(crate) fn begin(&mut self) -> Result<(), Finding>
+        requires ready { Ready self.old }
+        ensures lent { SameLent self.old self.new }
+        ensures begun { MatchResult result (λ _. Moved (program self.old) self.old self.new × Rooted (program self.old) (places self.new)) (λ f. Due (program self.old) f.cause f.address) }
+    {
+        let units = self.program.units;
+        self.arrive(0, Planned { body: 0, depth: 0 })?;
+        for (k, v) in units.iter().enumerate() {
+            let body = k as u8 + 1;
+            self.arrive(i64::from(v.entry) + 3, Planned { body, depth: 0 })?;
+        }
+        Ok(())
     }
-    Ok(())
-}
 
-// Visits each address of the list, in order, while the visits add to it.
-pub(crate) fn drain(
-    program: &Coded,
-    plan: &mut [Option<Planned>],
-    list: &mut SlotList<u32>,
-) -> Result<(), Finding>
-    requires small { length program.now.code.now ≤ 65536 }
-    requires table { length program.now.code.now ≤ length plan.old }
-    requires slots { length program.now.code.now ≤ room list.old }
-    requires marked { Marked program.now.code.now plan.old }
-    requires base { Base (seen program.now) (places_of plan.old) (items list.old) }
-    requires rooted { Rooted (seen program.now) (places_of plan.old) }
-    requires divided { Divided program.now.code.now }
-    requires opened { Opened (seen program.now) }
-    ensures { MatchResult result (λ _. Least (seen program.now) (plan_of (places_of plan.new))) (λ f. Due (seen program.now) f.cause f.address) }
-{
-    let mut i = 0;
-    while let Some(address) = list.get(i) {
-        visit(program, plan, list, address)?;
-        i += 1;
+    // Visits each address of the list, in order, while the visits add to it.
+    pub(crate) fn drain(&mut self) -> Result<(), Finding>
+        requires ready { Ready self.old }
+        requires rooted { Rooted (program self.old) (places self.old) }
+        requires divided { Divided self.old.program.code.now }
+        requires opened { Opened (program self.old) }
+        ensures lent { SameLent self.old self.new }
+        ensures drained { MatchResult result (λ _. Least (program self.old) (plan_of (places self.new))) (λ f. Due (program self.old) f.cause f.address) }
+    {
+        let mut i = 0;
+        while let Some(address) = self.list.get(i) {
+            self.visit(address)?;
+            i += 1;
+        }
+        Ok(())
     }
-    Ok(())
 }
