@@ -266,9 +266,13 @@ ready_after P v w m = subst (λ (Q : Program). Underway Q w) (sym m.is) (record 
 pub moved_same : (w : Work) → Ready w → Moved (program w) w w
 moved_same w r = record { is = refl; marked = r.marked; arrived = arrived_same (program w) (places w) (came w) r.base }
 
+-- what calls say of the program that they are handed, of the program that it is
+pub moved_back : (P : Program) (v w : Work) → Moved (program v) v w → program v ≡ P → Moved P v w
+moved_back P v w m e = subst (λ (Q : Program). Moved Q v w) e m
+
 pub moved_trans : (P : Program) (u v w : Work) → Moved P u v → Moved (program v) v w → Moved P u w
 moved_trans P u v w a b =
-    let c = subst (λ (Q : Program). Moved Q v w) a.is b in
+    let c = moved_back P v w b a.is in
     record { is = c.is; marked = c.marked; arrived = arrived_trans P (places u) (places v) (places w) (came u) (came v) (came w) a.arrived c.arrived }
 
 -- at the end of the work, on the table t that was lent to it

@@ -16,7 +16,7 @@ places w = places_of w.plan.now
 
 -- the addresses that have a place, in the order in which they came
 abbrev pub came : Work → List ℕ
-came w = items w.list
+came w = items w.list.now
 
 -- w is at work on P: the marks are right, and so are the places and the list so far
 pub record Underway (P : Program) (w : Work) : Type 0 where
@@ -32,8 +32,3 @@ pub record Moved (P : Program) (v w : Work) : Type 0 where
   pub is : program w ≡ P
   pub marked : Marked P.code w.plan.now
   pub arrived : Arrived P (places v) (places w) (came v) (came w)
-
--- they work on the same slots that were lent
-pub record SameLent (v w : Work) : Type 0 where
-  pub plan : w.plan.ghost_name ≡ v.plan.ghost_name
-  pub list : w.list.slots.ghost_name ≡ v.list.slots.ghost_name

@@ -12,6 +12,7 @@ use crate::passed::Passed;
 use crate::work::Work;
 use plan::{Coded, Planned};
 use program::{Assembled, CheckCause, Counts, Fault, Place, Refused, Unit};
+use slots::SlotList;
 
 // Makes the least lawful plan in a table that is unset, or finds why there is none. Marks are left beside the places.
 fn explore(
@@ -30,7 +31,8 @@ fn explore(
         cause: CheckCause::NoDivision,
         address: a as i64,
     })?;
-    let mut work = Work::new(*program, plan, visits);
+    let mut list = SlotList::new(visits, program.code.len());
+    let mut work = Work::new(*program, plan, &mut list);
     work.units_open().map_err(|e| Finding {
         cause: CheckCause::BadEntry,
         address: i64::from(e),

@@ -1,8 +1,9 @@
 // How the code divides into instructions. While the check works, each address that begins one has a mark in the plan
 // table until it has its place.
-ghost use Rattle.std.specs.Prelude.{◌≡◌, ℕ, ◌<◌, ◌≤◌, length, None, Decides, MatchResult, slice_index_or};
+ghost use Rattle.std.specs.Prelude.{◌≡◌, ℕ, ◌<◌, ◌≤◌, [], length, None, Decides, MatchResult, slice_index_or};
 ghost use Rattle.checker.specs.Progress.{Ready, Underway, places};
 ghost use Rattle.checker.specs.Work.{Marked, place_in, places_of};
+ghost use Rattle.slots.specs.Items.{items, room};
 ghost use Rattle.isa.specs.Code.{Divides, Divided};
 ghost use Rattle.plan.specs.Programs.{Stops, seen};
 
@@ -54,24 +55,23 @@ pub(crate) fn unmark(plan: &mut [Option<Planned>])
     }
 }
 
-impl<'p, 't, 'v> Work<'p, 't, 'v> {
+impl<'a, 's> Work<'a, 's> {
     // The work before its first address, on a table that is marked.
     pub(crate) fn new(
-        program: Coded<'p>,
-        plan: &'t mut [Option<Planned>],
-        visits: &'v mut [u32],
-    ) -> Work<'p, 't, 'v>
+        program: Coded<'a>,
+        plan: &'a mut [Option<Planned>],
+        list: &'a mut SlotList<'s, u32>,
+    ) -> Work<'a, 's>
         requires small { length program.code.now ≤ 65536 }
         requires few { length program.units.now ≤ 64 }
         requires table { length program.code.now ≤ length plan.old }
-        requires slots { length program.code.now ≤ length visits.old }
+        requires slots { length program.code.now ≤ room list.old }
+        requires empty { items list.old ≡ [] }
         requires marked { Marked program.code.now plan.old }
         requires bare { (a : ℕ) → slice_index_or (places_of plan.old) a None ≡ None }
         ensures lender { result.plan.ghost_name ≡ plan.entry.ghost_name }
-        ensures visits { result.list.slots.ghost_name ≡ visits.entry.ghost_name }
         ensures ready { Underway (seen program.entry) result }
     {
-        let list = SlotList::new(visits, program.code.len());
         Work {
             program,
             plan,

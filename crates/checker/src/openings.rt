@@ -38,7 +38,7 @@ fn is_alone(units: &[Unit], k: usize, e: u32) -> bool
         .all(|(j, w)| j == k || w.entry != e)
 }
 
-impl Work<'_, '_, '_> {
+impl Work<'_, '_> {
     // May an address have a place: does it begin an instruction, outside all openings?
     pub(crate) fn sits(&self, a: usize) -> bool
         requires { Ready self.now }

@@ -1,6 +1,6 @@
 // The walks from the roots, one address at a time.
 ghost use Rattle.std.specs.Prelude.{◌≡◌, ℕ, ◌<◌, length, pos, Some, None, MatchOption, MatchResult, slice_index_or};
-ghost use Rattle.checker.specs.Progress.{Ready, SameLent, Moved, places, program};
+ghost use Rattle.checker.specs.Progress.{Ready, Moved, places, program};
 ghost use Rattle.checker.specs.Work.{SetAt, Route, Done, Rooted};
 ghost use Rattle.isa.specs.Code.{Divided};
 ghost use Rattle.plan.specs.Causes.{Due};
@@ -15,7 +15,7 @@ use isa::instruction_at;
 use plan::{Next, Planned, Successor};
 use program::CheckCause;
 
-impl Work<'_, '_, '_> {
+impl Work<'_, '_> {
     // The address, if it may have a place.
     fn seat(&self, to: i64) -> Option<usize>
         requires { Ready self.now }
@@ -29,7 +29,7 @@ impl Work<'_, '_, '_> {
     fn arrive(&mut self, to: i64, at: Planned) -> Result<(), Finding>
         requires ready { Ready self.old }
         requires route { Route (program self.old) (places self.old) to at.body at.depth }
-        ensures lent { SameLent self.old self.new }
+        ensures lender { self.new.plan.ghost_name ≡ self.old.plan.ghost_name }
         ensures arrived { MatchResult result (λ _. Moved (program self.old) self.old self.new × Holds (plan_of (places self.new)) at.body (goes to at.depth)) (λ f. Due (program self.old) f.cause f.address) }
     {
         let Some(a) = self.seat(to) else {
@@ -63,7 +63,7 @@ impl Work<'_, '_, '_> {
     fn follow(&mut self, body: u8, s: Successor) -> Result<(), Finding>
         requires ready { Ready self.old }
         requires route { Route (program self.old) (places self.old) s.address body s.depth }
-        ensures lent { SameLent self.old self.new }
+        ensures lender { self.new.plan.ghost_name ≡ self.old.plan.ghost_name }
         ensures arrived { MatchResult result (λ _. Moved (program self.old) self.old self.new × Holds (plan_of (places self.new)) body s) (λ f. Due (program self.old) f.cause f.address) }
     {
         let depth = s.depth;
@@ -93,7 +93,7 @@ impl Work<'_, '_, '_> {
         requires inside { address < length self.old.program.code.now }
         requires placed { SetAt (places self.old) address }
         requires divided { Divided self.old.program.code.now }
-        ensures lent { SameLent self.old self.new }
+        ensures lender { self.new.plan.ghost_name ≡ self.old.plan.ghost_name }
         ensures visited { MatchResult result (λ _. Moved (program self.old) self.old self.new × Done (program self.old) (places self.new) address) (λ f. Due (program self.old) f.cause f.address) }
     {
         let Some(at) = self.place_at(address as usize) else {
@@ -113,7 +113,7 @@ impl Work<'_, '_, '_> {
     // Brings the walks of no step to the roots: 0, and the address after each opening.
     pub(crate) fn begin(&mut self) -> Result<(), Finding>
         requires ready { Ready self.old }
-        ensures lent { SameLent self.old self.new }
+        ensures lender { self.new.plan.ghost_name ≡ self.old.plan.ghost_name }
         ensures begun { MatchResult result (λ _. Moved (program self.old) self.old self.new × Rooted (program self.old) (places self.new)) (λ f. Due (program self.old) f.cause f.address) }
     {
         let units = self.program.units;
@@ -131,7 +131,7 @@ impl Work<'_, '_, '_> {
         requires rooted { Rooted (program self.old) (places self.old) }
         requires divided { Divided self.old.program.code.now }
         requires opened { Opened (program self.old) }
-        ensures lent { SameLent self.old self.new }
+        ensures lender { self.new.plan.ghost_name ≡ self.old.plan.ghost_name }
         ensures drained { MatchResult result (λ _. Least (program self.old) (plan_of (places self.new))) (λ f. Due (program self.old) f.cause f.address) }
     {
         let mut i = 0;

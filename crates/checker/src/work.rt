@@ -7,12 +7,12 @@ use slots::SlotList;
 // The work on a program: its plan table, in which each address that begins an instruction has a mark or its place, and
 // the list of the addresses that came to a place.
 #[derive(Drop)]
-pub(crate) struct Work<'p, 't, 'v> {
-    pub(crate) program: Coded<'p>,
-    pub(crate) plan: &'t mut [Option<Planned>],
-    pub(crate) list: SlotList<'v, u32>,
+pub(crate) struct Work<'a, 's> {
+    pub(crate) program: Coded<'a>,
+    pub(crate) plan: &'a mut [Option<Planned>],
+    pub(crate) list: &'a mut SlotList<'s, u32>,
     ghost small: { length program.code.now ≤ 65536 },
     ghost few: { length program.units.now ≤ 64 },
     ghost table: { length program.code.now ≤ length plan.now },
-    ghost slots: { length program.code.now ≤ room list },
+    ghost slots: { length program.code.now ≤ room list.now },
 }

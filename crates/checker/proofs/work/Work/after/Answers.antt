@@ -1,4 +1,4 @@
-use Rattle.std.proofs.Common.{◌≡◌, ℤ, pos, sym, ◌∙◌, subst, rules}
+use Rattle.std.proofs.Common.{◌≡◌, ℤ, pos, sym, subst, rules}
 use Rattle.std.proofs.lemmas.Int.{ints}
 use Rattle.program.specs.declared.fault.CheckCause.{CheckCause}
 use Rattle.plan.specs.Causes.{Due}

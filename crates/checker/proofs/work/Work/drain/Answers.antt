@@ -1,9 +1,9 @@
-use Rattle.std.proofs.Common.{◌≡◌, ◌<◌, length, get_or, sym, ◌∙◌, subst, arith, rules, ℕ}
+use Rattle.std.proofs.Common.{◌≡◌, ◌<◌, length, sym, ◌∙◌, subst, arith, rules, ℕ}
 use Rattle.std.proofs.lemmas.List.{get_or_read}
 use Rattle.plan.specs.Programs.{Program}
-use Rattle.checker.specs.Progress.{program, places, came, Moved}
-use Rattle.checker.specs.Work.{SetAt, Done, places_in}
-use Rattle.checker.proofs.Works.{rooted_grow, drain_more, finished, count_le, moved_trans}
+use Rattle.checker.specs.Progress.{program, places, came}
+use Rattle.checker.specs.Work.{SetAt, Arrived, Done, places_in}
+use Rattle.checker.proofs.Works.{rooted_grow, drain_more, finished, count_le, arrived_trans, moved_back}
 use Rattle.checker.proofs.work.Work.drain.Goals as goal
 
 pub visit-requires-clause-placed : goal.visit-requires-clause-placed
@@ -43,11 +43,12 @@ loop-address-preserved c =
     let i = c.loop-address.invariant in
     let l = c.in-Some.ensures.0 in
     let at = get_or_read (came w) c.loop-address.i c.in-Some.address l c.in-Some.ensures.1 0 in
-    let g = (subst (λ (Q : Program). Moved Q w u) i.moved.is c.in_ok-visit.ensures.visited.0).arrived in
+    let m = moved_back P _ u c.in_ok-visit.ensures.visited.0 i.moved.is in
+    let g : Arrived P (places w) (places u) (came w) (came u) = m.arrived in
     let d = subst (λ (Q : Program). Done Q (places u) c.in-Some.address) i.moved.is c.in_ok-visit.ensures.visited.1 in
     record {
-      lent = record { plan = c.in_ok-visit.ensures.lent.plan ∙ i.lent.plan; list = c.in_ok-visit.ensures.lent.list ∙ i.lent.list };
-      moved = moved_trans P c.args.self.now w u i.moved c.in_ok-visit.ensures.visited.0;
+      lender = c.in_ok-visit.ensures.lender ∙ i.lender;
+      moved = record { is = m.is; marked = m.marked; arrived = arrived_trans P (places c.args.self.now) (places w) (places u) (came c.args.self.now) (came w) (came u) i.moved.arrived g };
       rooted = rooted_grow P (places w) (places u) g.grows i.rooted;
       done = drain_more P (places w) (places u) (came w) (came u) c.loop-address.i c.in-Some.address i.moved.arrived.base i.done g d l at;
       within = omega (arith, l, g.longer.more);

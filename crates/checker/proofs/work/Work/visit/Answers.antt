@@ -1,4 +1,4 @@
-use Rattle.std.proofs.Common.{◌≡◌, [], ◌∷◌, get_or, Some, None, sym, refl, subst, inl, inr}
+use Rattle.std.proofs.Common.{[], ◌∷◌, sym, refl, subst, inl, inr}
 use Rattle.std.proofs.lemmas.Result.{MatchResult-weaker}
 use Rattle.plan.specs.declared.next.Next.{Next}
 use Rattle.plan.specs.Programs.{Program}
