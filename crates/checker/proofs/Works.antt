@@ -65,9 +65,6 @@ all_grow : (t u : Table) (ws : List ℕ) → Grows t u → AllByRecursion (SetAt
 all_grow t u [] g h = tt
 all_grow t u (w ∷ ws) g h = ((h.0.0, g w h.0.0 h.0.1), all_grow t u ws g h.1)
 
-pub route_grow : (P : Program) (t u : Table) (to : ℤ) (b h : ℕ) → Grows t u → Route P t to b h → Route P u to b h
-route_grow P t u to b h g r = (r.0, r.1, all_grow t u r.0 g r.2)
-
 pub holds_grow : (t u : Table) (b : ℕ) (s : Successor) → Grows t u → Holds (plan_of t) b s → Holds (plan_of u) b s
 holds_grow t u b s g h = (h.0, h.1, g h.0 (planned b s.depth) h.2)
 
@@ -81,9 +78,6 @@ done_grow P t u a g x d s e =
     let r = d s (x.1 ∙ ap Some (sym q)) in (r.0, r.1, alls_grow t u s.body r.0 g r.2)
 
 module _ (P : Program) where
-  pub arrived_same : (t : Table) (q : List ℕ) → Base P t q → Arrived P t t q q
-  arrived_same t q b = record { base = b; grows = λ a s h. h; longer = record { more = omega arith; same = λ j h. refl } }
-
   pub arrived_trans : (t u v : Table) (q r s : List ℕ) → Arrived P t u q r → Arrived P u v r s → Arrived P t v q s
   arrived_trans t u v q r s x y =
       record {
@@ -210,10 +204,6 @@ module _ (P : Program) where
   pub rooted_grow : (t u : Table) → Grows t u → Rooted P t → Rooted P u
   rooted_grow t u g r a b x = g a (planned b 0) (r a b x)
 
-  -- one more unit has its root
-  pub unit_rooted : (u : Table) (to : ℤ) (k n : ℕ) (w : UnitRecord) → to ≡ pos (w.entry + 3) → n ≡ suc k → Holds (plan_of u) n (goes to 0) → Has (plan_of u) (w.entry + 3) (suc k) 0
-  unit_rooted u to k n w e m h = let f = h.1 in let x : h.0 ≡ w.entry + 3 = cc in subst (λ (z : ℕ). Has (plan_of u) (w.entry + 3) z 0) m (subst (λ (z : ℕ). Has (plan_of u) z n 0) x h.2)
-
   -- one more address is done
   module _ (t u : Table) (q r : List ℕ) (i a : ℕ) where
     pub drain_more : Base P t q → ((j : ℕ) → j < i → Done P t (get_or q j 0)) → Arrived P t u q r → Done P u a → i < length q → a ≡ get_or q i 0 → (j : ℕ) → j < i + 1 → Done P u (get_or r j 0)
@@ -258,13 +248,6 @@ pub mapped : {X Y Z : Type 0} (r : Result X Y) (q : Result X Z) (P : X → Type 
 mapped (Ok x) q P Q R L m p f = subst (λ u. MatchResult u P R) (sym m) p
 mapped (Err y) (Ok x) P Q R L m p f = absurd m
 mapped (Err y) (Err z) P Q R L m p f = f y z m p
-
--- the work goes on from where calls have left it
-pub ready_after : (P : Program) (v w : Work) → Moved P v w → Ready w
-ready_after P v w m = subst (λ (Q : Program). Underway Q w) (sym m.is) (record { is = m.is; marked = m.marked; base = m.arrived.base })
-
-pub moved_same : (w : Work) → Ready w → Moved (program w) w w
-moved_same w r = record { is = refl; marked = r.marked; arrived = arrived_same (program w) (places w) (came w) r.base }
 
 -- what calls say of the program that they are handed, of the program that it is
 pub moved_back : (P : Program) (v w : Work) → Moved (program v) v w → program v ≡ P → Moved P v w

@@ -15,11 +15,7 @@ use program::{Assembled, CheckCause, Counts, Fault, Place, Refused, Unit};
 use slots::SlotList;
 
 // Makes the least lawful plan in a table that is unset, or finds why there is none. Marks are left beside the places.
-fn explore(
-    program: &Coded,
-    plan: &mut [Option<Planned>],
-    visits: &mut [u32],
-) -> Result<(), Finding>
+fn explore(program: &Coded, plan: &mut [Option<Planned>], visits: &mut [u32]) -> Result<(), Finding>
     requires small { length program.now.code.now ≤ 65536 }
     requires few { length program.now.units.now ≤ 64 }
     requires table { length program.now.code.now ≤ length plan.old }

@@ -15,6 +15,7 @@ use slots::SlotList;
 // The depth of a place is at most this.
 const DEEPEST: u16 = 1000;
 
+// Stays: a mark is a place of no depth in the caller's table, whose slots are `Option<Planned>` and have no third case.
 const MARK: Planned = Planned {
     body: 0,
     depth: DEEPEST + 1,
@@ -35,6 +36,7 @@ pub(crate) fn mark(program: &Coded, plan: &mut [Option<Planned>]) -> Result<(), 
     requires unset { (a : ℕ) → slice_index_or plan.old a None ≡ None }
     ensures { MatchResult result (λ _. Divided program.now.code.now × Marked program.now.code.now plan.new × ((a : ℕ) → slice_index_or (places_of plan.new) a None ≡ None)) (λ a. Stops program.now.code.now a) }
 {
+    // Stays: each step goes on by the length of the instruction that it finds, and writes; no iterator walks so.
     let mut a = 0;
     while a < program.code.len() {
         let Some(i) = instruction_at(program.code, a) else {

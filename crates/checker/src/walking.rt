@@ -118,6 +118,7 @@ impl Work<'_, '_> {
     {
         let units = self.program.units;
         self.arrive(0, Planned { body: 0, depth: 0 })?;
+        // Stays: `(1u8..).zip(units)` was tried, and what a step of it gives stayed open in the proof.
         for (k, v) in units.iter().enumerate() {
             let body = k as u8 + 1;
             self.arrive(i64::from(v.entry) + 3, Planned { body, depth: 0 })?;
@@ -134,6 +135,7 @@ impl Work<'_, '_> {
         ensures lender { self.new.plan.ghost_name ≡ self.old.plan.ghost_name }
         ensures drained { MatchResult result (λ _. Least (program self.old) (plan_of (places self.new))) (λ f. Due (program self.old) f.cause f.address) }
     {
+        // Stays: the list grows while it is read, so no iterator over it can be held.
         let mut i = 0;
         while let Some(address) = self.list.get(i) {
             self.visit(address)?;

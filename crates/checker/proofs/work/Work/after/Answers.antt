@@ -15,7 +15,7 @@ returns c =
     let w = c.args.self.now in
     mapped c.rule_at.result c.map_err.result _ _ _ _ c.map_err.ensures.cases
     (ruling_said (program w) (places w) (came w) c.requires.ready.base c.args.address c.args.at c.requires.placed c.in-Some.i (sym c.in-Some.ensures.is) c.rule_at.result c.rule_at.ensures.ruled
-        (c.rule_at.ensures.low (depth_low (program w) (places w) (came w) c.requires.ready.base c.args.address c.args.at c.requires.placed)))
+    (c.rule_at.ensures.low (depth_low (program w) (places w) (came w) c.requires.ready.base c.args.address c.args.at c.requires.placed)))
     (λ y z k d.
     let e : z.cause ≡ y = search rules in
     let f : z.address ≡ pos c.args.address = search (rules, ints) in

@@ -21,7 +21,7 @@ arrive-requires-in-loop-k-clause-route c =
     let n : c.loop-k.k + 1 ≡ suc c.loop-k.k = omega arith in
     subst (λ (Q : Program). Route Q (places c.loop-k.self) (to_z w64 (of_z w64 (to_z w64 (of_z w64 c.from.result) +ℤ pos 3))) (c.loop-k.k + 1) 0) (sym c.loop-k.invariant.moved.is)
     (subst (λ (z : ℤ). Route P (places c.loop-k.self) z (c.loop-k.k + 1) 0) (sym e)
-        (subst (λ (z : ℕ). Route P (places c.loop-k.self) (pos (v.entry + 3)) z 0) (sym n) ([], root (v.entry + 3) (suc c.loop-k.k) (unit c.loop-k.k v l), tt)))
+    (subst (λ (z : ℕ). Route P (places c.loop-k.self) (pos (v.entry + 3)) z 0) (sym n) ([], root (v.entry + 3) (suc c.loop-k.k) (unit c.loop-k.k v l), tt)))
 
 pub returns-clause-begun : goal.returns-clause-begun
 returns-clause-begun c =

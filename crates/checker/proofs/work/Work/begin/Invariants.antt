@@ -10,5 +10,5 @@ invariant-loop-k l = record {
   lender : l.self.plan.ghost_name ≡ l.fn.self.plan.ghost_name;
   moved : Moved (program l.fn.self) l.fn.self l.self;
   main : Has (plan_of (places l.self)) 0 0 0;
-  units : (j : ℕ) (w : UnitRecord) → j < l.k → Listed l.fn.self.program.units.now j w → Has (plan_of (places l.self)) (w.entry + 3) (suc j) 0
+  units : (j : ℕ) (w : UnitRecord) → j < l.k → Listed l.fn.self.program.units.now j w → Has (plan_of (places l.self)) (w.entry + 3) (suc j) 0;
 }

@@ -9,7 +9,7 @@ invariant-loop-address l = record {
   moved : Moved (program l.fn.self) l.fn.self l.self;
   rooted : Rooted (program l.fn.self) (places l.self);
   done : (j : ℕ) → j < l.i → Done (program l.fn.self) (places l.self) (get_or (came l.self) j 0);
-  within : l.i ≤ length (came l.self)
+  within : l.i ≤ length (came l.self);
 }
 
 abbrev pub decreases-loop-address : goal.decreases-loop-address
