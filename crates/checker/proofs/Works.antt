@@ -11,7 +11,7 @@ use Rattle.isa.specs.Code.{instruction, Divided}
 use Rattle.plan.specs.declared.planned.Planned.{Planned}
 use Rattle.plan.specs.declared.successor.Successor.{Successor}
 use Rattle.plan.specs.Programs.{Program, Listed, Opens, Sits}
-use Rattle.plan.specs.Rules.{Steps, to as goes}
+use Rattle.plan.specs.Rules.{Steps}
 use Rattle.plan.specs.Lawful.{Plan, planned, Has, Holds, main, unit, Lawful, Least, Table, plan_of}
 use Rattle.plan.specs.Walks.{In, on}
 use Rattle.plan.specs.Causes.{AtPlace, Due, Turn, Sound}
@@ -20,8 +20,9 @@ use Rattle.plan.proofs.Dividing.{scan_none}
 use Rattle.plan.proofs.Walking.{all_in, walk_planned, walk_low}
 use Rattle.checker.specs.declared.finding.Finding.{Finding}
 use Rattle.checker.specs.declared.work.Work.{Work}
-use Rattle.checker.specs.Progress.{program, places, came, Underway, Ready, Moved}
-use Rattle.std.specs.Result.{IsErrAnd}
+use Rattle.checker.specs.Progress.{judged, places, came, Moved}
+use Rattle.std.specs.Option.{IsSome}
+use Rattle.std.specs.Result.{IsOk, IsErrAnd}
 use Rattle.checker.specs.Work.{SetAt, filled, places_in, places_of, Route, Reached, Base, Grows, Arrived, Done, Rooted}
 
 filled_le : (o : Option Planned) → filled o ≤ 1
@@ -243,6 +244,15 @@ turned P OutsideFrame t s d = s
 turned P TooDeep t s d = s
 turned P DifferentWays t s d = s
 
+-- a call that cannot fail
+pub there : {X : Type 0} (o : Option X) → (None ≡ o → ⊥) → IsSome o
+there None f = absurd (f refl)
+there (Some x) f = refl
+
+pub passes : {X Y : Type 0} (r : Result X Y) (P : X → Type 0) (Q : Y → Type 0) → MatchResult r P Q → ((y : Y) → Q y → ⊥) → IsOk r
+passes (Ok x) P Q m f = refl
+passes (Err y) P Q m f = absurd (f y m)
+
 -- what is said of a result, of the one that `map_err` makes of it
 pub mapped : {X Y Z : Type 0} (r : Result X Y) (q : Result X Z) (P : X → Type 0) (Q : Y → Type 0) (R : Z → Type 0) (L : Y → Z → Type 0) → MatchResult r (λ x. q ≡ Ok x) (λ y. IsErrAnd q (L y)) → MatchResult r P Q → ((y : Y) (z : Z) → L y z → Q y → R z) → MatchResult q P R
 mapped (Ok x) q P Q R L m p f = subst (λ u. MatchResult u P R) (sym m) p
@@ -250,10 +260,10 @@ mapped (Err y) (Ok x) P Q R L m p f = absurd m
 mapped (Err y) (Err z) P Q R L m p f = f y z m p
 
 -- what calls say of the program that they are handed, of the program that it is
-pub moved_back : (P : Program) (v w : Work) → Moved (program v) v w → program v ≡ P → Moved P v w
+pub moved_back : (P : Program) (v w : Work) → Moved (judged v) v w → judged v ≡ P → Moved P v w
 moved_back P v w m e = subst (λ (Q : Program). Moved Q v w) e m
 
-pub moved_trans : (P : Program) (u v w : Work) → Moved P u v → Moved (program v) v w → Moved P u w
+pub moved_trans : (P : Program) (u v w : Work) → Moved P u v → Moved (judged v) v w → Moved P u w
 moved_trans P u v w a b =
     let c = moved_back P v w b a.is in
     record { is = c.is; marked = c.marked; arrived = arrived_trans P (places u) (places v) (places w) (came u) (came v) (came w) a.arrived c.arrived }

@@ -6,9 +6,9 @@ use Rattle.plan.specs.Lawful.{Table}
 use Rattle.checker.specs.declared.work.Work.{Work}
 use Rattle.checker.specs.Work.{places_of, Marked, Base, Arrived}
 
--- the program that it checks
-abbrev pub program : Work → Program
-program w = seen w.program
+-- the program that it judges
+abbrev pub judged : Work → Program
+judged w = seen w.program
 
 -- its table without the marks
 abbrev pub places : Work → Table
@@ -20,15 +20,16 @@ came w = items w.list.now
 
 -- w is at work on P: the marks are right, and so are the places and the list so far
 pub record Underway (P : Program) (w : Work) : Type 0 where
-  pub is : program w ≡ P
+  pub is : judged w ≡ P
   pub marked : Marked P.code w.plan.now
   pub base : Base P (places w) (came w)
 
+-- the work is right so far
 abbrev pub Ready : Work → Type 0
-Ready w = Underway (program w) w
+Ready w = Underway (judged w) w
 
 -- w is v, at work on P, after addresses came to their places
 pub record Moved (P : Program) (v w : Work) : Type 0 where
-  pub is : program w ≡ P
+  pub is : judged w ≡ P
   pub marked : Marked P.code w.plan.now
   pub arrived : Arrived P (places v) (places w) (came v) (came w)

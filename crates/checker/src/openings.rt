@@ -1,6 +1,6 @@
 // The units: their entries and openings.
 ghost use Rattle.std.specs.Prelude.{◌^◌, ◌<◌, pos, Decides, MatchResult};
-ghost use Rattle.checker.specs.Progress.{Ready, program};
+ghost use Rattle.checker.specs.Progress.{Ready, judged};
 ghost use Rattle.plan.specs.Causes.{BadUnit};
 ghost use Rattle.plan.specs.Programs.{InOpening, OpeningAt, Alone, Opens, Opened, Sits};
 
@@ -42,7 +42,7 @@ impl Work<'_, '_> {
     // May an address have a place: does it begin an instruction, outside all openings?
     pub(crate) fn sits(&self, a: usize) -> bool
         requires { Ready self.now }
-        ensures { Decides result (Sits (program self.now) a) }
+        ensures { Decides result (Sits (judged self.now) a) }
     {
         self.begins(a) && !in_opening(self.program.units, a)
     }
@@ -50,7 +50,7 @@ impl Work<'_, '_> {
     // Is the k-th unit good: does its entry begin an instruction, hold the opening, and belong to no other unit?
     fn opens(&self, k: usize, v: Unit) -> bool
         requires { Ready self.now }
-        ensures { Decides result (Opens (program self.now) k v) }
+        ensures { Decides result (Opens (judged self.now) k v) }
     {
         let e = v.entry as usize;
         self.begins(e) && has_opening(&self.program, e) && is_alone(self.program.units, k, v.entry)
@@ -59,7 +59,7 @@ impl Work<'_, '_> {
     // Are all units good? If not, the error is the entry of the first bad one.
     pub(crate) fn units_open(&self) -> Result<(), u32>
         requires { Ready self.now }
-        ensures { MatchResult result (λ _. Opened (program self.now)) (λ e. BadUnit (program self.now) (pos e)) }
+        ensures { MatchResult result (λ _. Opened (judged self.now)) (λ e. BadUnit (judged self.now) (pos e)) }
     {
         for (k, v) in self.program.units.iter().enumerate() {
             if !self.opens(k, *v) {

@@ -1,6 +1,6 @@
 // The walks from the roots, one address at a time.
 ghost use Rattle.std.specs.Prelude.{◌≡◌, ℕ, ◌<◌, length, pos, Some, None, MatchOption, MatchResult, slice_index_or};
-ghost use Rattle.checker.specs.Progress.{Ready, Moved, places, program};
+ghost use Rattle.checker.specs.Progress.{Ready, Moved, places, judged};
 ghost use Rattle.checker.specs.Work.{SetAt, Route, Done, Rooted};
 ghost use Rattle.isa.specs.Code.{Divided};
 ghost use Rattle.plan.specs.Causes.{Due};
@@ -19,7 +19,7 @@ impl Work<'_, '_> {
     // The address, if it may have a place.
     fn seat(&self, to: i64) -> Option<usize>
         requires { Ready self.now }
-        ensures { MatchOption result ((a : ℕ) → to ≡ pos a → Sits (program self.now) a → ⊥) (λ a. (to ≡ pos a) × Sits (program self.now) a) }
+        ensures { MatchOption result ((a : ℕ) → to ≡ pos a → Sits (judged self.now) a → ⊥) (λ a. (to ≡ pos a) × Sits (judged self.now) a) }
     {
         let a = usize::try_from(to).ok()?;
         self.sits(a).then_some(a)
@@ -28,9 +28,9 @@ impl Work<'_, '_> {
     // Brings a walk to an address: it gets its place, or has it.
     fn arrive(&mut self, to: i64, at: Planned) -> Result<(), Finding>
         requires ready { Ready self.old }
-        requires route { Route (program self.old) (places self.old) to at.body at.depth }
+        requires route { Route (judged self.old) (places self.old) to at.body at.depth }
         ensures lender { self.new.plan.ghost_name ≡ self.old.plan.ghost_name }
-        ensures arrived { MatchResult result (λ _. Moved (program self.old) self.old self.new × Holds (plan_of (places self.new)) at.body (goes to at.depth)) (λ f. Due (program self.old) f.cause f.address) }
+        ensures arrived { MatchResult result (λ _. Moved (judged self.old) self.old self.new × Holds (plan_of (places self.new)) at.body (goes to at.depth)) (λ f. Due (judged self.old) f.cause f.address) }
     {
         let Some(a) = self.seat(to) else {
             return Err(Finding {
@@ -39,22 +39,15 @@ impl Work<'_, '_> {
             });
         };
         match self.place_at(a) {
-            Some(other) => {
-                if other == at {
-                    Ok(())
-                } else {
-                    Err(Finding {
-                        cause: CheckCause::DifferentWays,
-                        address: to,
-                    })
-                }
-            }
+            Some(other) if other == at => Ok(()),
+            Some(_) => Err(Finding {
+                cause: CheckCause::DifferentWays,
+                address: to,
+            }),
             None => {
                 self.plan[a] = Some(at);
-                match self.list.push(a as u32) {
-                    Ok(()) => Ok(()),
-                    Err(_) => unreachable(),
-                }
+                self.list.push(a as u32).unwrap();
+                Ok(())
             }
         }
     }
@@ -62,9 +55,9 @@ impl Work<'_, '_> {
     // Brings a walk on to a successor, in the same body.
     fn follow(&mut self, body: u8, s: Successor) -> Result<(), Finding>
         requires ready { Ready self.old }
-        requires route { Route (program self.old) (places self.old) s.address body s.depth }
+        requires route { Route (judged self.old) (places self.old) s.address body s.depth }
         ensures lender { self.new.plan.ghost_name ≡ self.old.plan.ghost_name }
-        ensures arrived { MatchResult result (λ _. Moved (program self.old) self.old self.new × Holds (plan_of (places self.new)) body s) (λ f. Due (program self.old) f.cause f.address) }
+        ensures arrived { MatchResult result (λ _. Moved (judged self.old) self.old self.new × Holds (plan_of (places self.new)) body s) (λ f. Due (judged self.old) f.cause f.address) }
     {
         let depth = s.depth;
         self.arrive(s.address, Planned { body, depth })
@@ -75,12 +68,10 @@ impl Work<'_, '_> {
         requires ready { Ready self.now }
         requires placed { slice_index_or (places self.now) address None ≡ Some at }
         requires divided { Divided self.now.program.code.now }
-        ensures { MatchResult result (λ n. Steps (program self.now) address at.body at.depth (successors n)) (λ f. Due (program self.now) f.cause f.address) }
+        ensures { MatchResult result (λ n. Steps (judged self.now) address at.body at.depth (successors n)) (λ f. Due (judged self.now) f.cause f.address) }
     {
         let program = self.program;
-        let Some(i) = instruction_at(program.code, address as usize) else {
-            return unreachable();
-        };
+        let i = instruction_at(program.code, address as usize).unwrap();
         program.rule_at(address, at, i).map_err(|cause| Finding {
             cause,
             address: i64::from(address),
@@ -94,11 +85,9 @@ impl Work<'_, '_> {
         requires placed { SetAt (places self.old) address }
         requires divided { Divided self.old.program.code.now }
         ensures lender { self.new.plan.ghost_name ≡ self.old.plan.ghost_name }
-        ensures visited { MatchResult result (λ _. Moved (program self.old) self.old self.new × Done (program self.old) (places self.new) address) (λ f. Due (program self.old) f.cause f.address) }
+        ensures visited { MatchResult result (λ _. Moved (judged self.old) self.old self.new × Done (judged self.old) (places self.new) address) (λ f. Due (judged self.old) f.cause f.address) }
     {
-        let Some(at) = self.place_at(address as usize) else {
-            return unreachable();
-        };
+        let at = self.place_at(address as usize).unwrap();
         let next = self.after(address, at)?;
         match next {
             Next::Last => Ok(()),
@@ -114,7 +103,7 @@ impl Work<'_, '_> {
     pub(crate) fn begin(&mut self) -> Result<(), Finding>
         requires ready { Ready self.old }
         ensures lender { self.new.plan.ghost_name ≡ self.old.plan.ghost_name }
-        ensures begun { MatchResult result (λ _. Moved (program self.old) self.old self.new × Rooted (program self.old) (places self.new)) (λ f. Due (program self.old) f.cause f.address) }
+        ensures begun { MatchResult result (λ _. Moved (judged self.old) self.old self.new × Rooted (judged self.old) (places self.new)) (λ f. Due (judged self.old) f.cause f.address) }
     {
         let units = self.program.units;
         self.arrive(0, Planned { body: 0, depth: 0 })?;
@@ -129,11 +118,11 @@ impl Work<'_, '_> {
     // Visits each address of the list, in order, while the visits add to it.
     pub(crate) fn drain(&mut self) -> Result<(), Finding>
         requires ready { Ready self.old }
-        requires rooted { Rooted (program self.old) (places self.old) }
+        requires rooted { Rooted (judged self.old) (places self.old) }
         requires divided { Divided self.old.program.code.now }
-        requires opened { Opened (program self.old) }
+        requires opened { Opened (judged self.old) }
         ensures lender { self.new.plan.ghost_name ≡ self.old.plan.ghost_name }
-        ensures drained { MatchResult result (λ _. Least (program self.old) (plan_of (places self.new))) (λ f. Due (program self.old) f.cause f.address) }
+        ensures drained { MatchResult result (λ _. Least (judged self.old) (plan_of (places self.new))) (λ f. Due (judged self.old) f.cause f.address) }
     {
         // Stays: the list grows while it is read, so no iterator over it can be held.
         let mut i = 0;

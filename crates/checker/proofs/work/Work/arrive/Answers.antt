@@ -4,26 +4,26 @@ use Rattle.slots.specs.Items.{items}
 use Rattle.plan.specs.Programs.{Program}
 use Rattle.plan.specs.Lawful.{Has, Table, plan_of}
 use Rattle.plan.proofs.Walking.{walk_low}
-use Rattle.checker.specs.Progress.{program, places, came}
+use Rattle.checker.specs.Progress.{judged, places, came}
 use Rattle.checker.specs.Work.{places_of, Route, Arrived}
 use Rattle.checker.proofs.Marks.{places_room, places_set, marked_set}
-use Rattle.checker.proofs.Works.{arrived_new, room_left}
+use Rattle.checker.proofs.Works.{arrived_new, room_left, passes}
 use Rattle.checker.proofs.work.Work.arrive.Goals as goal
 
-pub unreachable-requires : goal.unreachable-requires
-unreachable-requires c =
+pub unwrap-requires : goal.unwrap-requires
+unwrap-requires c =
     let w = c.args.self.now in
-    let P : Program = program w in
+    let P : Program = judged w in
     let h : get_or (places w) c.in-Some.a None ≡ None = sym c.in-None.ensures in
     let e : c.args.to ≡ pos c.in-Some.a = sym (to_z-of_z w64 c.args.to c.ranges.to) ∙ c.in-Some.ensures.0 in
     let n = room_left P (places w) (came w) c.requires.ready.base c.in-Some.a c.args.at c.in-Some.ensures.1 (places_room w.plan.now (length P.code) w.table) h
     (subst (λ (z : ℤ). Route P (places w) z c.args.at.body c.args.at.depth) e c.requires.route) in
-    omega (arith, n, c.in-Err.ensures.items.0, w.slots)
+    passes c.push.result _ _ c.push.ensures.items (λ y q. omega (arith, n, q.0, w.slots))
 
-pub returns-in-Ok-clause-arrived : goal.returns-in-Ok-clause-arrived
-returns-in-Ok-clause-arrived c =
+pub returns-in-None-clause-arrived : goal.returns-in-None-clause-arrived
+returns-in-None-clause-arrived c =
     let w = c.args.self.now in
-    let P : Program = program w in
+    let P : Program = judged w in
     let t : Table = places w in
     let h : get_or t c.in-Some.a None ≡ None = sym c.in-None.ensures in
     let e : c.args.to ≡ pos c.in-Some.a = sym (to_z-of_z w64 c.args.to c.ranges.to) ∙ c.in-Some.ensures.0 in
@@ -32,7 +32,7 @@ returns-in-Ok-clause-arrived c =
     let low = walk_low P r.0 (pos c.in-Some.a) c.args.at.body c.args.at.depth r.1 in
     let v : places_of (set w.plan.now c.in-Some.a (Some c.args.at)) ≡ set t c.in-Some.a (Some c.args.at) = places_set w.plan.now c.in-Some.a c.args.at low in
     let n = arrived_new P t (came w) c.requires.ready.base c.in-Some.a c.args.at sits (places_room w.plan.now (length P.code) w.table) h r in
-    let p : items c.push.new.self ≡ came w ++ c.in-Some.a ∷ [] = c.in-Ok.ensures.items.0 in (
+    let p : items c.push.new.self ≡ came w ++ c.in-Some.a ∷ [] = (rw c.unwrap.ensures at c.push.ensures.items).0 in (
       record {
         is = refl;
         marked = marked_set P.code w.plan.now c.in-Some.a c.args.at w.table sits.divides c.requires.ready.marked;

@@ -4,7 +4,7 @@ use Rattle.program.specs.declared.unit.Unit.{Unit as UnitRecord}
 use Rattle.plan.specs.Programs.{Program, Listed}
 use Rattle.plan.specs.Lawful.{main, unit}
 use Rattle.plan.specs.Walks.{root}
-use Rattle.checker.specs.Progress.{program, places}
+use Rattle.checker.specs.Progress.{judged, places}
 use Rattle.checker.specs.Work.{Route}
 use Rattle.checker.proofs.Works.{rooted}
 use Rattle.checker.proofs.work.Work.begin.Goals as goal
@@ -14,7 +14,7 @@ arrive-requires-clause-route c = ([], root 0 0 main, tt)
 
 pub arrive-requires-in-loop-k-clause-route : goal.arrive-requires-in-loop-k-clause-route
 arrive-requires-in-loop-k-clause-route c =
-    let P : Program = program c.args.self.now in
+    let P : Program = judged c.args.self.now in
     let v : UnitRecord = c.index-units-k.result in
     let e : to_z w64 (of_z w64 (to_z w64 (of_z w64 c.from.result) +ℤ pos 3)) ≡ pos (v.entry + 3) = omega (arith, ints) in
     let l : Listed P.units c.loop-k.k v = (c.loop-k-test.true, sym c.index-units-k.is) in
@@ -25,4 +25,4 @@ arrive-requires-in-loop-k-clause-route c =
 
 pub returns-clause-begun : goal.returns-clause-begun
 returns-clause-begun c =
-    (c.loop-k.invariant.moved, rooted (program c.args.self.now) (places c.loop-k.self) c.loop-k.invariant.main (λ k v l. c.loop-k.invariant.units k v (omega (arith, l.0)) l))
+    (c.loop-k.invariant.moved, rooted (judged c.args.self.now) (places c.loop-k.self) c.loop-k.invariant.main (λ k v l. c.loop-k.invariant.units k v (omega (arith, l.0)) l))

@@ -1,7 +1,7 @@
 use Rattle.std.proofs.Common.{◌≡◌, ◌<◌, length, sym, ◌∙◌, subst, arith, rules, ℕ}
 use Rattle.std.proofs.lemmas.List.{get_or_read}
 use Rattle.plan.specs.Programs.{Program}
-use Rattle.checker.specs.Progress.{program, places, came}
+use Rattle.checker.specs.Progress.{judged, places, came}
 use Rattle.checker.specs.Work.{SetAt, Arrived, Done, places_in}
 use Rattle.checker.proofs.Works.{rooted_grow, drain_more, finished, count_le, arrived_trans, moved_back}
 use Rattle.checker.proofs.work.Work.drain.Goals as goal
@@ -37,7 +37,7 @@ loop-address-smaller c =
 
 pub loop-address-preserved : goal.loop-address-preserved
 loop-address-preserved c =
-    let P : Program = program c.args.self.now in
+    let P : Program = judged c.args.self.now in
     let w = c.loop-address.self in
     let u = c.visit.new.self in
     let i = c.loop-address.invariant in
@@ -59,4 +59,4 @@ returns-clause-drained c =
     let w = c.loop-address.self in
     let i = c.loop-address.invariant in
     let l = c.in_default.ensures in
-    finished (program c.args.self.now) (places w) (came w) i.moved.arrived.base (λ j h. i.done j (omega (arith, h, l))) i.rooted c.requires.divided c.requires.opened
+    finished (judged c.args.self.now) (places w) (came w) i.moved.arrived.base (λ j h. i.done j (omega (arith, h, l))) i.rooted c.requires.divided c.requires.opened

@@ -3,7 +3,7 @@ use Rattle.std.proofs.lemmas.Bool.{both_ways}
 use Rattle.program.specs.declared.unit.Unit.{Unit as UnitRecord}
 use Rattle.plan.specs.Programs.{Opens}
 use Rattle.plan.proofs.Listing.{units_each}
-use Rattle.checker.specs.Progress.{program}
+use Rattle.checker.specs.Progress.{judged}
 use Rattle.checker.proofs.work.Work.units_open.Goals as goal
 
 pub returns-then-not-opens : goal.returns-then-not-opens
@@ -19,6 +19,6 @@ returns-then-not-opens c =
 
 pub loop-k-preserved : goal.loop-k-preserved
 loop-k-preserved c =
-    units_each c.args.self.now.program.units.now (λ (k : ℕ) (v : UnitRecord). Opens (program c.args.self.now) k v) c.loop-k.k c.v-item.result c.loop-k.invariant
+    units_each c.args.self.now.program.units.now (λ (k : ℕ) (v : UnitRecord). Opens (judged c.args.self.now) k v) c.loop-k.k c.v-item.result c.loop-k.invariant
     (c.loop-k-test.true, sym c.v-item.is)
     (c.opens.ensures.0 c.if-not-opens.false)
