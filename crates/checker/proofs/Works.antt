@@ -8,6 +8,7 @@ use Rattle.program.specs.declared.fault.CheckCause.TheVariants.{TableSize, Memor
 use Rattle.program.specs.declared.unit.Unit.{Unit as UnitRecord}
 use Rattle.isa.specs.declared.instruction.Instruction.{Instruction}
 use Rattle.isa.specs.Code.{instruction, Divided}
+use Rattle.plan.specs.declared.next.Next.{Next}
 use Rattle.plan.specs.declared.planned.Planned.{Planned}
 use Rattle.plan.specs.declared.successor.Successor.{Successor}
 use Rattle.plan.specs.Programs.{Program, Listed, Opens, Sits}
@@ -174,6 +175,9 @@ module _ (P : Program) where
 
   pub depth_low : (t : Table) (q : List ℕ) → Base P t q → (a : ℕ) (s : Planned) → get_or t a None ≡ Some s → s.depth ≤ 1000
   depth_low t q b a s e = let w = b.reached a s e in walk_low P w.0 (pos a) s.body s.depth w.1
+
+  pub steps_to : (a : ℕ) (s : Planned) (n m : Next) → n ≡ m → Steps P a s.body s.depth (successors n) → Steps P a s.body s.depth (successors m)
+  steps_to a s n m e st = subst (λ (x : Next). Steps P a s.body s.depth (successors x)) e st
 
   pub seat_instruction : (a : ℕ) → Sits P a → Divided P.code → None ≡ instruction P.code a → ⊥
   seat_instruction a s d e = scan_none P.code a (length P.code) s.inside s.divides e d

@@ -7,7 +7,7 @@ use Rattle.checker.proofs.Works.{seat_instruction, depth_low, ruling_said, mappe
 use Rattle.checker.proofs.work.Work.after.Goals as goal
 
 pub unwrap-i-requires : goal.unwrap-i-requires
-unwrap-i-requires c = 
+unwrap-i-requires c =
     let w = c.args.self.now in
     there c.instruction_at.result (λ e. seat_instruction (judged w) c.args.address (c.requires.ready.base.seated c.args.address c.args.at c.requires.placed) c.requires.divided (e ∙ c.instruction_at.ensures.is))
 
