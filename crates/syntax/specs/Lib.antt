@@ -1,7 +1,9 @@
 pub mod Bytes
+pub mod Causes
 pub mod Cells
 pub mod Forms
 pub mod Kinds
+pub mod Left
 pub mod Limits
 pub mod Lines
 pub mod Meant

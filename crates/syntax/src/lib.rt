@@ -9,7 +9,7 @@ mod statements;
 mod tokens;
 
 pub use extents::cells_of;
-pub use lines::{line_in, next_line};
+pub use lines::{Lines, line_in, next_line};
 pub use ranges::in_range;
 pub use statements::{Argument, LineFault, Statement, statement_of};
-pub use tokens::{Token, next_token};
+pub use tokens::{Token, Tokens, next_token};

@@ -1,6 +1,8 @@
 ghost use Rattle.std.specs.Prelude.{◌≡◌, ℕ, ◌<◌, ◌≤◌, List, [], ◌∷◌, length, drop, Some, None, MatchOption};
 ghost use Rattle.syntax.specs.Bytes.{front, after};
 ghost use Rattle.syntax.specs.Lines.{lines, line_at, not_end};
+ghost use Rattle.syntax.specs.Left.{lines_left};
+ghost use Rattle.std.specs.Iterator.{YieldsFirstRef, item_count};
 
 use crate::bytes::{Kind, run_len};
 
@@ -37,4 +39,32 @@ pub fn line_in<'a>(text: &'a [u8], number: usize) -> Option<&'a [u8]>
         rest = after;
     }
     None
+}
+
+// The lines of a text, in order.
+#[derive(Drop)]
+pub struct Lines<'a> {
+    rest: &'a [u8],
+}
+
+impl<'a> Lines<'a> {
+    pub fn new(text: &'a [u8]) -> Lines<'a>
+        ensures { lines_left result ≡ lines text.now }
+    {
+        Lines { rest: text }
+    }
+}
+
+impl<'a> Iterator for Lines<'a> {
+    type Item = &'a [u8];
+
+    ghost next_gives = { YieldsFirstRef lines_left };
+
+    ghost remaining = { item_count lines_left };
+
+    fn next(&mut self) -> Option<&'a [u8]> {
+        let (line, rest) = next_line(self.rest)?;
+        self.rest = rest;
+        Some(line)
+    }
 }

@@ -8,11 +8,12 @@ ghost use Rattle.syntax.specs.Forms.{Form, Item, unfit, then_name, then_number, 
 ghost use Rattle.syntax.specs.Limits.{Limited};
 ghost use Rattle.syntax.specs.Meant.{meant};
 ghost use Rattle.syntax.specs.Stated.{stated, formed, label_of, argued, line_form};
+ghost use Rattle.syntax.specs.Causes.{line_cause};
 
 use crate::bytes::is_plain;
 use crate::tokens::{Token, next_token};
 use isa::{Opcode, Operand, opcode_named, operand_of};
-use program::{Section, is_word};
+use program::{AssemblyCause, Section, is_word};
 
 // What stands after an instruction's mnemonic.
 #[derive(Clone, Copy)]
@@ -37,10 +38,21 @@ pub enum Statement<'a> {
 
 // Why a line is no statement: it is over 255 bytes long or has a byte that may not stand in a line, or it fits no
 // form.
-#[derive(Clone, Copy)]
+#[derive(Clone, Copy, PartialEq, Eq)]
 pub enum LineFault {
     Bytes,
     Form,
+}
+
+impl From<LineFault> for AssemblyCause {
+    ghost from_gives = { λ fault cause. cause ≡ line_cause fault };
+
+    fn from(fault: LineFault) -> AssemblyCause {
+        match fault {
+            LineFault::Bytes => AssemblyCause::LineBytes,
+            LineFault::Form => AssemblyCause::NoForm,
+        }
+    }
 }
 
 fn take_name<'a>(line: &'a [u8]) -> Option<(&'a [u8], &'a [u8])>

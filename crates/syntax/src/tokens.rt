@@ -3,6 +3,8 @@ ghost use Rattle.syntax.specs.Bytes.{starts};
 ghost use Rattle.syntax.specs.Cells.{span};
 ghost use Rattle.syntax.specs.Tokens.{begins, figures, token_of_bytes, next_read, read, tokens};
 ghost use Rattle.syntax.specs.Meant.{meant, token_of};
+ghost use Rattle.syntax.specs.Left.{tokens_left};
+ghost use Rattle.std.specs.Iterator.{YieldsFirstBy, item_count};
 
 use crate::bytes::{Kind, is_digit, run_len, starts_name};
 
@@ -118,4 +120,32 @@ pub fn next_token<'a>(line: &'a [u8]) -> Option<(Token<'a>, &'a [u8])>
     ensures tokens { MatchOption result (tokens line.now ≡ []) (λ p. (tokens line.now ≡ meant p.0 ∷ tokens p.1.now) × (length p.1.now < length line.now) × (span (meant p.0) + length p.1.now ≤ length line.now)) }
 {
     first_token(line)
+}
+
+// The tokens of a line, in order.
+#[derive(Drop)]
+pub struct Tokens<'a> {
+    rest: &'a [u8],
+}
+
+impl<'a> Tokens<'a> {
+    pub fn new(line: &'a [u8]) -> Tokens<'a>
+        ensures { tokens_left result ≡ tokens line.now }
+    {
+        Tokens { rest: line }
+    }
+}
+
+impl<'a> Iterator for Tokens<'a> {
+    type Item = Token<'a>;
+
+    ghost next_gives = { YieldsFirstBy meant tokens_left };
+
+    ghost remaining = { item_count tokens_left };
+
+    fn next(&mut self) -> Option<Token<'a>> {
+        let (token, rest) = next_token(self.rest)?;
+        self.rest = rest;
+        Some(token)
+    }
 }
