@@ -1,15 +1,14 @@
 -- What the passes of the code come to, by what the texts assemble to.
-use Rattle.std.specs.Prelude.{◌≡◌, ℕ, ◌-◌, ◌≤◌, List, [], ◌++◌, length, replicate, ℤ, pos, Some, None, Ok, Err, Option, Result}
+use Rattle.std.specs.Prelude.{◌≡◌, ℕ, ◌-◌, ◌≤◌, List, [], ◌++◌, length, replicate, ℤ, pos, Ok, Err, Result}
 use Rattle.program.specs.Faults as F
 use Rattle.program.specs.declared.counts.Counts.{Counts}
 use Rattle.program.specs.declared.assembled.Assembled.{Assembled}
 use Rattle.program.specs.declared.fault.Fault.{Fault}
-use Rattle.program.specs.declared.label.Label.{Label}
 use Rattle.program.specs.declared.section.Section.{Section}
-use Rattle.program.specs.declared.unit.Unit.{Unit as UnitRecord}
 use Rattle.slots.specs.Items.{items, room}
 use Rattle.slots.specs.declared.list.SlotList.{SlotList}
 use Rattle.syntax.specs.Forms.{Form}
+use Rattle.assembler.specs.declared.lists.Lists.{Lists}
 use Rattle.assembler.specs.declared.tally.Tally.{Tally}
 use Rattle.assembler.specs.Assembly.{Assembly, program, unread, refusal, first, fitted, linked, made}
 use Rattle.assembler.specs.Cells.{both}
@@ -30,9 +29,9 @@ module _ (site library : List Form) (label_room unit_room : ℕ) where
   Surveys (Err f) ls us = (n : ℕ) → Refuses f (first n site library label_room unit_room)
 
 -- every name has a label, or the first line with one that has none is refused
-abbrev pub Links : Option Fault → List Form → List Form → List Mark → Type 0
-Links None site library ls = (n : ℕ) (s : Survey) → linked n site library s ls ≡ made n site library s ls
-Links (Some f) site library ls = (n : ℕ) (s : Survey) → Refuses f (linked n site library s ls)
+abbrev pub Links : Result (Unit {0}) Fault → List Form → List Form → List Mark → Type 0
+Links (Ok u) site library ls = (n : ℕ) (s : Survey) → linked n site library s ls ≡ made n site library s ls
+Links (Err f) site library ls = (n : ℕ) (s : Survey) → Refuses f (linked n site library s ls)
 
 -- the program with the cells, labels and units that were written, or the refusal
 abbrev pub Builds : ℕ → Result Assembled Fault → Assembly → List ℤ → List Mark → List Entry → Type 0
@@ -52,10 +51,10 @@ Made (Ok a) c = a.counts ≡ c
 Made (Err f) c = ⊥
 
 -- lists over a memory of n cells and over slots: no cell is written, and labels and units have their bounds
-pub record Fresh (n : ℕ) (written : SlotList ℤ) (labels : SlotList Label) (units : SlotList UnitRecord) : Type 0 where
+pub record Fresh (n : ℕ) (written : SlotList ℤ) (lists : Lists) : Type 0 where
   pub least : 16 ≤ n
   pub most : n ≤ 65536
   pub whole : room written ≡ n
   pub none : items written ≡ []
-  pub labelled : room labels ≤ 512
-  pub united : room units ≤ 64
+  pub labelled : room lists.labels ≤ 512
+  pub united : room lists.units ≤ 64

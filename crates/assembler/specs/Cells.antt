@@ -62,10 +62,10 @@ module _ (ls : List Mark) where
   resolved (words l ts) = all_known (items ts)
   resolved (copies l k z) = true
 
-  -- the first line with a name that has no label, or 0; the next line has the number k
-  abbrev pub unresolved : ℕ → List Form → ℕ
-  unresolved k [] = 0
-  unresolved k (f ∷ fs) = elim (resolved f) [ true ↦ unresolved (suc k) fs | false ↦ k ]
+  -- the first line with a name that has no label; the next line has the number k
+  abbrev pub unresolved : ℕ → List Form → Option ℕ
+  unresolved k [] = None
+  unresolved k (f ∷ fs) = elim (resolved f) [ true ↦ unresolved (suc k) fs | false ↦ Some k ]
 
   -- the cell that an item becomes
   abbrev pub cell : Item → ℤ

@@ -3,6 +3,7 @@ ghost use Rattle.assembler.specs.Handed.{Outcome, handed};
 ghost use Rattle.std.specs.Prelude.{length};
 
 use crate::fit::assemble_fit;
+use crate::texts::Texts;
 use program::{Assembled, AssemblyCause, Fault, Label, Place, Text, Unit};
 
 // Assembles a site text and a library text into a memory, with slots for labels and for units.
@@ -28,5 +29,5 @@ pub fn assemble(
     if library.len() > 65536 {
         return Err(Fault::Assembly(AssemblyCause::TextLength, Place::Line(Text::Library, 0)));
     }
-    assemble_fit(site, library, memory, labels, units)
+    assemble_fit(Texts { site, library }, memory, labels, units)
 }

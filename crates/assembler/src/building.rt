@@ -4,8 +4,8 @@ ghost use Rattle.assembler.specs.Assembly.{first, fitted, forms};
 ghost use Rattle.assembler.specs.Builds.{Builds, Fresh, Links, Made, Surveys, Tallied};
 ghost use Rattle.assembler.specs.Cells.{both};
 ghost use Rattle.assembler.specs.Marks.{mark_of};
-ghost use Rattle.assembler.specs.Progress.{Kept, Small, entries, marks};
-ghost use Rattle.assembler.specs.Survey.{extent, opened, surveyed};
+ghost use Rattle.assembler.specs.Progress.{Kept, KeptBoth, Small, entries, marks, survey_of};
+ghost use Rattle.assembler.specs.Survey.{extent, opened};
 ghost use Rattle.program.specs.Programs.{Lawful};
 ghost use Rattle.program.specs.declared.section.Section.{Section as SectionKind};
 ghost use Rattle.program.specs.declared.fault.Fault.TheVariants as F;
@@ -14,10 +14,11 @@ ghost use Rattle.slots.specs.Items.{items, room};
 
 use crate::finding::unresolved_in;
 use crate::layout::{lay_out, open_units};
-use crate::survey::survey_text;
+use crate::lists::Lists;
 use crate::tally::{LineCause, Tally};
+use crate::texts::Texts;
 use crate::writing::write_all;
-use program::{Assembled, AssemblyCause, Counts, Fault, Label, Place, Section, Text, Unit};
+use program::{Assembled, AssemblyCause, Counts, Fault, Label, Place, Section, Text};
 use slots::SlotList;
 
 // Another text begins in .CODE.
@@ -28,9 +29,7 @@ fn reopened(tally: Tally) -> Tally
     Tally {
         section: Section::Code,
         begun: false,
-        code: tally.code,
-        data: tally.data,
-        heap: tally.heap,
+        ..tally
     }
 }
 
@@ -41,20 +40,12 @@ fn line_fault(text: Text, found: LineCause) -> Fault
 }
 
 // The lines of both texts.
-fn survey_texts(
-    site: &[u8],
-    library: &[u8],
-    labels: &mut SlotList<Label>,
-    units: &mut SlotList<Unit>,
-) -> Result<Tally, Fault>
-    requires short_site { length site.now ≤ 65536 }
-    requires short_library { length library.now ≤ 65536 }
-    requires no_labels { marks labels.old ≡ [] }
-    requires no_units { entries units.old ≡ [] }
-    ensures surveys { Surveys (forms site.now) (forms library.now) (room labels.old) (room units.old) result (marks labels.new) (entries units.new) }
+fn survey_texts(texts: Texts, lists: &mut Lists) -> Result<Tally, Fault>
+    requires no_labels { marks lists.old.labels ≡ [] }
+    requires no_units { entries lists.old.units ≡ [] }
+    ensures surveys { Surveys (forms texts.entry.site.now) (forms texts.entry.library.now) (room lists.old.labels) (room lists.old.units) result (marks lists.new.labels) (entries lists.new.units) }
     ensures small { Tallied result }
-    ensures labels { Kept labels.old labels.new }
-    ensures units { Kept units.old units.new }
+    ensures kept { KeptBoth lists.old lists.new }
 {
     let start = Tally {
         section: Section::Code,
@@ -63,30 +54,25 @@ fn survey_texts(
         data: 0,
         heap: 0,
     };
-    match survey_text(site, start, labels, units) {
-        Err(found) => Err(line_fault(Text::Site, found)),
-        Ok(tally) => match survey_text(library, reopened(tally), labels, units) {
-            Err(found) => Err(line_fault(Text::Library, found)),
-            Ok(tally) => Ok(tally),
-        },
-    }
+    let tally = lists
+        .survey_text(texts.site, start)
+        .map_err(|found| line_fault(Text::Site, found))?;
+    lists
+        .survey_text(texts.library, reopened(tally))
+        .map_err(|found| line_fault(Text::Library, found))
 }
 
-// The first line with a name that has no label.
-fn unlinked(labels: &[Label], site: &[u8], library: &[u8]) -> Option<Fault>
-    requires short_site { length site.now ≤ 65536 }
-    requires short_library { length library.now ≤ 65536 }
-    ensures { Links result (forms site.now) (forms library.now) (map mark_of labels.now) }
+// Has every name a label? Else the first line with one that has none is refused.
+fn check_names(labels: &[Label], texts: Texts) -> Result<(), Fault>
+    ensures { Links result (forms texts.entry.site.now) (forms texts.entry.library.now) (map mark_of labels.now) }
 {
-    let line = unresolved_in(labels, site);
-    if line > 0 {
-        return Some(Fault::Assembly(AssemblyCause::NoLabel, Place::Line(Text::Site, line)));
+    if let Some(line) = unresolved_in(labels, texts.site) {
+        return Err(Fault::Assembly(AssemblyCause::NoLabel, Place::Line(Text::Site, line)));
     }
-    let line = unresolved_in(labels, library);
-    if line > 0 {
-        return Some(Fault::Assembly(AssemblyCause::NoLabel, Place::Line(Text::Library, line)));
+    if let Some(line) = unresolved_in(labels, texts.library) {
+        return Err(Fault::Assembly(AssemblyCause::NoLabel, Place::Line(Text::Library, line)));
     }
-    None
+    Ok(())
 }
 
 // The program of counts that are lawful.
@@ -104,21 +90,16 @@ fn finished(counts: Counts) -> Result<Assembled, Fault>
 fn link(
     cells: usize,
     tally: Tally,
-    site: &[u8],
-    library: &[u8],
+    texts: Texts,
     written: &mut SlotList<i32>,
-    labels: &mut SlotList<Label>,
-    units: &mut SlotList<Unit>,
+    lists: &mut Lists,
 ) -> Result<Assembled, Fault>
-    requires fresh { Fresh cells written.old labels.old units.old }
-    requires short_site { length site.now ≤ 65536 }
-    requires short_library { length library.now ≤ 65536 }
+    requires fresh { Fresh cells written.old lists.old }
     requires small { Small tally 200000000 }
-    requires extents { (q : SectionKind) → extent tally q ≡ length (both q (forms site.now) (forms library.now)) }
-    ensures builds { Builds cells result (fitted cells (forms site.now) (forms library.now) (surveyed tally (marks labels.old) (entries units.old))) (items written.new) (marks labels.new) (entries units.new) }
+    requires extents { (q : SectionKind) → extent tally q ≡ length (both q (forms texts.site.now) (forms texts.library.now)) }
+    ensures builds { Builds cells result (fitted cells (forms texts.entry.site.now) (forms texts.entry.library.now) (survey_of tally lists.old)) (items written.new) (marks lists.new.labels) (entries lists.new.units) }
     ensures written { Kept written.old written.new }
-    ensures labels { Kept labels.old labels.new }
-    ensures units { Kept units.old units.new }
+    ensures kept { KeptBoth lists.old lists.new }
 {
     let Tally {
         code,
@@ -129,45 +110,34 @@ fn link(
     if code + data + heap > cells {
         return Err(Fault::Assembly(AssemblyCause::ProgramSize, Place::Line(Text::Site, 0)));
     }
-    lay_out(tally, labels);
-    match unlinked(labels.items(), site, library) {
-        Some(fault) => Err(fault),
-        None => {
-            write_all(written, labels.items(), site, library);
-            open_units(labels.items(), units);
-            finished(Counts {
-                cells,
-                code,
-                data,
-                heap,
-                labels: labels.len(),
-                units: units.len(),
-            })
-        }
-    }
+    lay_out(tally, &mut lists.labels);
+    check_names(lists.labels.items(), texts)?;
+    write_all(written, lists.labels.items(), texts);
+    open_units(lists.labels.items(), &mut lists.units);
+    finished(Counts {
+        cells,
+        code,
+        data,
+        heap,
+        labels: lists.labels.len(),
+        units: lists.units.len(),
+    })
 }
 
 // Both texts become a program.
 pub(crate) fn build(
     cells: usize,
-    site: &[u8],
-    library: &[u8],
+    texts: Texts,
     written: &mut SlotList<i32>,
-    labels: &mut SlotList<Label>,
-    units: &mut SlotList<Unit>,
+    lists: &mut Lists,
 ) -> Result<Assembled, Fault>
-    requires fresh { Fresh cells written.old labels.old units.old }
-    requires short_site { length site.now ≤ 65536 }
-    requires short_library { length library.now ≤ 65536 }
-    requires no_labels { marks labels.old ≡ [] }
-    requires no_units { entries units.old ≡ [] }
-    ensures builds { Builds cells result (first cells (forms site.now) (forms library.now) (room labels.old) (room units.old)) (items written.new) (marks labels.new) (entries units.new) }
+    requires fresh { Fresh cells written.old lists.old }
+    requires no_labels { marks lists.old.labels ≡ [] }
+    requires no_units { entries lists.old.units ≡ [] }
+    ensures builds { Builds cells result (first cells (forms texts.entry.site.now) (forms texts.entry.library.now) (room lists.old.labels) (room lists.old.units)) (items written.new) (marks lists.new.labels) (entries lists.new.units) }
     ensures written { Kept written.old written.new }
-    ensures labels { Kept labels.old labels.new }
-    ensures units { Kept units.old units.new }
+    ensures kept { KeptBoth lists.old lists.new }
 {
-    match survey_texts(site, library, labels, units) {
-        Err(fault) => Err(fault),
-        Ok(tally) => link(cells, tally, site, library, written, labels, units),
-    }
+    let tally = survey_texts(texts, lists)?;
+    link(cells, tally, texts, written, lists)
 }

@@ -5,54 +5,48 @@ ghost use Rattle.assembler.specs.Progress.{Cleared};
 ghost use Rattle.program.specs.Records.{NoLabel, NoUnit};
 
 use crate::building::build;
+use crate::lists::Lists;
+use crate::texts::Texts;
 use program::{Assembled, Fault, Label, Unit};
 use slots::SlotList;
 
 // Zeros in every cell and slot, written or not.
-fn zero_all(written: &mut SlotList<i32>, labels: &mut SlotList<Label>, units: &mut SlotList<Unit>)
+fn zero_all(written: &mut SlotList<i32>, lists: &mut Lists)
     ensures cells { Cleared (λ z. z ≡ pos 0) written.old written.new }
-    ensures labels { Cleared NoLabel labels.old labels.new }
-    ensures units { Cleared NoUnit units.old units.new }
+    ensures labels { Cleared NoLabel lists.old.labels lists.new.labels }
+    ensures units { Cleared NoUnit lists.old.units lists.new.units }
 {
     written.clear(0);
-    labels.clear(Label::empty());
-    units.clear(Unit::empty());
+    lists.labels.clear(Label::empty());
+    lists.units.clear(Unit::empty());
 }
 
 // The same, for a memory and texts of lawful sizes.
 pub(crate) fn assemble_fit(
-    site: &[u8],
-    library: &[u8],
+    texts: Texts,
     memory: &mut [i32],
     labels: &mut [Label],
     units: &mut [Unit],
 ) -> Result<Assembled, Fault>
     requires enough_cells { 16 ≤ length memory.old }
     requires few_cells { length memory.old ≤ 65536 }
-    requires short_site { length site.now ≤ 65536 }
-    requires short_library { length library.now ≤ 65536 }
-    ensures { Outcome result (first (length memory.old) (forms site.now) (forms library.now) (min (length labels.old) 512) (min (length units.old) 64)) (handed memory.old labels.old units.old) (handed memory.new labels.new units.new) }
+    ensures { Outcome result (first (length memory.old) (forms texts.entry.site.now) (forms texts.entry.library.now) (min (length labels.old) 512) (min (length units.old) 64)) (handed memory.old labels.old units.old) (handed memory.new labels.new units.new) }
 {
     let cells = memory.len();
     let mut written = SlotList::new(memory, cells);
-    let mut label_list = SlotList::new(labels, 512);
-    let mut unit_list = SlotList::new(units, 64);
-    match build(
-        cells,
-        site,
-        library,
-        &mut written,
-        &mut label_list,
-        &mut unit_list,
-    ) {
+    let mut lists = Lists {
+        labels: SlotList::new(labels, 512),
+        units: SlotList::new(units, 64),
+    };
+    match build(cells, texts, &mut written, &mut lists) {
         Ok(program) => {
             written.fill_rest(0);
-            label_list.fill_rest(Label::empty());
-            unit_list.fill_rest(Unit::empty());
+            lists.labels.fill_rest(Label::empty());
+            lists.units.fill_rest(Unit::empty());
             Ok(program)
         }
         Err(fault) => {
-            zero_all(&mut written, &mut label_list, &mut unit_list);
+            zero_all(&mut written, &mut lists);
             Err(fault)
         }
     }

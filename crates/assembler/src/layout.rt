@@ -27,11 +27,7 @@ fn base_of(tally: Tally, section: Section) -> usize
 fn address_of(address: usize) -> u32
     ensures { result ≡ word address }
 {
-    if address < 4294967296 {
-        address as u32
-    } else {
-        0
-    }
+    u32::try_from(address).unwrap_or(0)
 }
 
 // A label with its address in memory.
@@ -40,11 +36,7 @@ fn placed(tally: Tally, label: Label) -> Label
     ensures { mark_of result ≡ laid tally (mark_of label) }
 {
     let address = address_of(base_of(tally, label.section) + label.address as usize);
-    Label {
-        name: label.name,
-        section: label.section,
-        address,
-    }
+    Label { address, ..label }
 }
 
 // The label at a place gets its address.
@@ -76,10 +68,7 @@ pub(crate) fn lay_out(tally: Tally, labels: &mut SlotList<Label>)
 pub(crate) fn entry_of(labels: &[Label], word: &[u8]) -> u32
     ensures { result ≡ or_zero (find_mark (smalls word.now) (map mark_of labels.now)) }
 {
-    match find(labels, word) {
-        Some(address) => address,
-        None => 0,
-    }
+    find(labels, word).unwrap_or(0)
 }
 
 // A unit with its entry.
@@ -87,12 +76,7 @@ fn opened(labels: &[Label], unit: Unit) -> Unit
     ensures { entry_of result ≡ opening (map mark_of labels.now) (entry_of unit) }
 {
     let entry = entry_of(labels, unit.name.text());
-    Unit {
-        name: unit.name,
-        entry,
-        arguments: unit.arguments,
-        results: unit.results,
-    }
+    Unit { entry, ..unit }
 }
 
 // The unit at a place gets its entry.

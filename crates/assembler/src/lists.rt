@@ -1,0 +1,9 @@
+use program::{Label, Unit};
+use slots::SlotList;
+
+// What the lines declare, over the slots that were handed over for it: labels and units, in line order.
+#[derive(Drop)]
+pub struct Lists<'a> {
+    pub(crate) labels: SlotList<'a, Label>,
+    pub(crate) units: SlotList<'a, Unit>,
+}
