@@ -1,6 +1,7 @@
 -- No line gives a name of more than 31 bytes or takes more than 1,000 cells.
 use Rattle.std.proofs.Common.{◌≡◌, ℕ, zero, suc, ◌≤◌, Bool, true, false, ◌&&◌, eqb, leb, List, [], ◌∷◌, length, ℤ, pos, negsuc, Some, None, codes, Option, refl, arith}
 use Rattle.std.proofs.lemmas.List.{length-map, length-replicate}
+use Rattle.std.proofs.lemmas.List.Sums.{sum_by-cons}
 use Rattle.std.proofs.lemmas.Bool.{and_parts, leb-true}
 use Rattle.program.specs.Names.{same}
 use Rattle.program.specs.declared.section.Section.{Section}
@@ -11,7 +12,7 @@ use Rattle.isa.specs.declared.opcode.Operand.TheVariants.{Absent, Value, Target,
 use Rattle.syntax.specs.Bytes.{starts, comment, blank, continues, front, after, every, plain}
 use Rattle.syntax.specs.Tokens.{Tok, name, number, character, text, sign, Read, word, token_of_bytes, quoted, closed, figures, not_quote, unblanked, next_read, tokens_by, tokens}
 use Rattle.syntax.specs.Forms.{Item, value, at, Form, foul, unfit, empty, section, unit, instruction, words, copies, ended, is_sign_token, is_dup_token, then_name, then_number, then_sign, then_further, unit_form, section_of_name, directive_of, is_list, listed, copies_form, data_form, then_argument, instruction_form, on_value, on_number, on_name, operation, labelled, spelled, form}
-use Rattle.syntax.specs.Cells.{times, spans}
+use Rattle.syntax.specs.Cells.{times, span, spans}
 use Rattle.syntax.specs.Limits.{ShortLabel, Limited}
 use Rattle.syntax.proofs.Listed.{items_span}
 use Rattle.syntax.proofs.Tokened.{next_span}
@@ -79,14 +80,18 @@ by_spans (suc k) bs = go (next_read bs) refl (by_spans k)
   where
     go : (o : Option Read) → next_read bs ≡ o → ((cs : List ℕ) → spans (tokens_by k cs) ≤ length cs) → spans (tokens_by (suc k) bs) ≤ length bs
     go None e ih = rw (e, tokens_by) (omega arith)
-    go (Some r) e ih = rw (e, tokens_by) (omega (arith, next_span bs r e, ih r.rest))
+    go (Some r) e ih = rw (e, tokens_by, sum_by-cons span) (omega (arith, next_span bs r e, ih r.rest))
+
+-- the tokens of a line take at most as many cells as it has bytes
+pub spans_le : (bs : List ℕ) → spans (tokens bs) ≤ length bs
+spans_le bs = by_spans (length bs) bs
 
 -- tokens with short names, which take at most 255 cells
 abbrev Small : List Tok → Type 0
 Small ts = AllShort ts × (spans ts ≤ 255)
 
 later : (t : Tok) (ts : List Tok) → Small (t ∷ ts) → Small ts
-later t ts a = (a.0.1, omega (arith, a.1))
+later t ts a = (a.0.1, omega (arith, a.1, sum_by-cons span t ts))
 
 -- a form that such tokens spell
 abbrev Modest : Form → Type 0
@@ -248,5 +253,5 @@ limited bs = go (leb (length bs) 255 && every plain bs) refl
     go : (b : Bool) → (leb (length bs) 255 && every plain bs) ≡ b → Limited (form bs)
     go true e =
         let h : length bs ≤ 255 = leb-true (length bs) 255 (and_parts (leb (length bs) 255) (every plain bs) e).0 in
-        rw (e, form) (modest_limited (spelled (tokens bs)) (spelled_short (tokens bs) (by_short (length bs) bs, omega (arith, by_spans (length bs) bs))))
+        rw (e, form) (modest_limited (spelled (tokens bs)) (spelled_short (tokens bs) (by_short (length bs) bs, omega (arith, spans_le bs))))
     go false e = rw (e, form) (modest_limited foul tt)

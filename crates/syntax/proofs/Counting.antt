@@ -1,14 +1,13 @@
-use Rattle.std.proofs.Common.{◌≡◌, ℕ, zero, suc, ◌-◌, ◌≤◌, List, [], ◌∷◌, Some, None, refl, arith}
+-- The line of a number, as an item of the list of lines.
+use Rattle.std.proofs.Common.{◌≡◌, ℕ, zero, suc, ◌-◌, ◌≤◌, List, Some, None, Option, sym, refl, arith, MatchOption, slice_get}
 use Rattle.syntax.specs.Lines.{line_at}
+use Rattle.std.specs.Option.{option_map}
 
-pub line_here : (n : ℕ) (ls ms : List (List ℕ)) (l : List ℕ) → n ≡ 1 → ls ≡ l ∷ ms → line_at n ls ≡ Some l
-line_here n ls ms l e f = rw (e, f) refl
+-- what a lookup by reference gives, case by case
+pub looked_up : {A B : Type 0} (view : A → B) (r : Option A) (o : Option B) → option_map view r ≡ o → MatchOption r (o ≡ None) (λ x. o ≡ Some (view x))
+looked_up view None o e = sym e
+looked_up view (Some x) o e = sym e
 
-pub line_on : (n : ℕ) (ls ms : List (List ℕ)) (l : List ℕ) → 1 ≤ n → (n ≡ 1 → ⊥) → ls ≡ l ∷ ms → line_at (n - 1) ms ≡ line_at n ls
-line_on zero ls ms l h k f = absurd (omega arith)
-line_on (suc zero) ls ms l h k f = absurd (k refl)
-line_on (suc (suc n)) ls ms l h k f = let e : suc (suc n) - 1 ≡ suc n = omega arith in rw (e, f) refl
-
-pub line_none : (n : ℕ) (ls : List (List ℕ)) → ls ≡ [] → line_at n ls ≡ None
-line_none zero ls f = refl
-line_none (suc n) ls f = rw f refl
+pub line_get : (n : ℕ) (ls : List (List ℕ)) → 1 ≤ n → slice_get ls (n - 1) ≡ line_at n ls
+line_get zero ls h = absurd (omega arith)
+line_get (suc n) ls h = let e : suc n - 1 ≡ n = omega arith in rw e refl

@@ -1,5 +1,5 @@
 -- The first line of a text, and the others.
-use Rattle.std.proofs.Common.{◌≡◌, ℕ, ◌<◌, ◌≤◌, Bool, true, false, eqb, List, [], ◌∷◌, length, drop, refl, ap, arith}
+use Rattle.std.proofs.Common.{◌≡◌, ℕ, suc, ◌<◌, ◌≤◌, Bool, true, false, eqb, List, [], ◌∷◌, length, drop, refl, ap, arith}
 use Rattle.syntax.specs.Bytes.{front, after}
 use Rattle.syntax.specs.Lines.{lines, onto, not_end}
 
@@ -28,3 +28,16 @@ lines_last xs line (r ∷ rs) h p q e = absurd (omega arith)
 pub rest_last : (rest : List ℕ) → length rest ≤ 0 → rest ≡ drop 1 rest
 rest_last [] h = refl
 rest_last (r ∷ rs) h = absurd (omega arith)
+
+-- a text has at most as many lines as bytes
+pub lines_count : (xs : List ℕ) → length (lines xs) ≤ length xs
+lines_count [] = omega arith
+lines_count (c ∷ cs) = go (eqb c 10) refl (lines_count cs)
+  where
+    onto_count : (ls : List (List ℕ)) → length (onto c ls) ≤ suc (length ls)
+    onto_count [] = omega arith
+    onto_count (l ∷ ls) = omega arith
+
+    go : (b : Bool) → eqb c 10 ≡ b → length (lines cs) ≤ length cs → length (lines (c ∷ cs)) ≤ length (c ∷ cs)
+    go true e h = rw (e, lines) (omega (arith, h))
+    go false e h = rw (e, lines) (omega (arith, h, onto_count (lines cs)))

@@ -1,6 +1,7 @@
 -- The items of DW, one on, and the cells that they take.
 use Rattle.std.proofs.Common.{◌≡◌, ℕ, true, false, List, [], ◌∷◌, length, Some, codes, Option, sym, refl, ◌∙◌, length-append}
 use Rattle.std.proofs.lemmas.List.{length-map}
+use Rattle.std.proofs.lemmas.List.Sums.{sum_by-cons}
 use Rattle.program.specs.Names.{same}
 use Rattle.isa.specs.Table.{named}
 use Rattle.isa.specs.declared.opcode.Opcode.{Opcode}
@@ -28,4 +29,4 @@ one_span (sign c) = refl
 
 pub items_span : (ts : List Tok) → length (items ts) ≡ spans ts
 items_span [] = refl
-items_span (t ∷ ts) = length-append (items_of t) (items ts) ∙ (rw (one_span t, items_span ts) refl)
+items_span (t ∷ ts) = length-append (items_of t) (items ts) ∙ (rw (one_span t, items_span ts) (sym (sum_by-cons span t ts)))

@@ -70,6 +70,18 @@ turns (suc j) (suc k) bs g h = go (next_read bs) refl (turns j k)
         let l = rest_lt bs r e in
         by_some j bs r e ∙ ap (λ ts. r.token ∷ ts) (ih r.rest (omega arith) (omega arith)) ∙ sym (by_some k bs r e)
 
+by_count : (k : ℕ) (bs : List ℕ) → length (tokens_by k bs) ≤ k
+by_count zero bs = omega arith
+by_count (suc k) bs = go (next_read bs) refl (by_count k)
+  where
+    go : (o : Option Read) → next_read bs ≡ o → ((cs : List ℕ) → length (tokens_by k cs) ≤ k) → length (tokens_by (suc k) bs) ≤ suc k
+    go None e h = rw (e, tokens_by) (omega arith)
+    go (Some r) e h = rw (e, tokens_by) (omega (arith, h r.rest))
+
+-- a line has at most as many tokens as bytes
+pub tokens_count : (bs : List ℕ) → length (tokens bs) ≤ length bs
+tokens_count bs = by_count (length bs) bs
+
 pub tokens_none : (bs : List ℕ) → next_read bs ≡ None → tokens bs ≡ []
 tokens_none bs e = by_none (length bs) bs e
 

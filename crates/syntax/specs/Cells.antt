@@ -1,5 +1,6 @@
 -- The cells that a form takes.
-use Rattle.std.specs.Prelude.{ℕ, ◌+◌, true, false, List, [], ◌∷◌, ◌++◌, map, length, replicate, ℤ, pos, negsuc, nat_le}
+use Rattle.std.specs.Prelude.{ℕ, true, false, List, [], ◌∷◌, map, length, replicate, ℤ, pos, negsuc, nat_le}
+use Rattle.std.specs.List.{flat_map, sum_by}
 use Rattle.isa.specs.Table as isa
 use Rattle.syntax.specs.Tokens.{Tok, name, number, character, text, sign}
 use Rattle.syntax.specs.Forms.{Item, value, at, byte, Form, foul, unfit, empty, section, unit, instruction, words, copies}
@@ -13,8 +14,7 @@ items_of (text s) = map byte s
 items_of (sign c) = []
 
 abbrev pub items : List Tok → List Item
-items [] = []
-items (t ∷ ts) = items_of t ++ items ts
+items ts = flat_map items_of ts
 
 -- how often k DUP(n) gives n: up to 1,000 times, and never where k is out of range
 abbrev pub times : ℤ → ℕ
@@ -41,5 +41,4 @@ span (text s) = length s
 span (sign c) = 0
 
 abbrev pub spans : List Tok → ℕ
-spans [] = 0
-spans (t ∷ ts) = span t + spans ts
+spans ts = sum_by span ts

@@ -1,5 +1,5 @@
 -- The lines of a text: byte 10 ends a line, and bytes after the last byte 10 are a last line.
-use Rattle.std.specs.Prelude.{ℕ, zero, suc, Bool, true, false, not, List, [], ◌∷◌, Some, None, Option, ◌==◌}
+use Rattle.std.specs.Prelude.{ℕ, zero, suc, Bool, true, false, not, List, [], ◌∷◌, None, Option, ◌==◌, slice_get}
 
 -- a byte before the first line
 abbrev pub onto : ℕ → List (List ℕ) → List (List ℕ)
@@ -16,6 +16,4 @@ not_end c = not (c == 10)
 -- the line of a number, counted from 1
 abbrev pub line_at : ℕ → List (List ℕ) → Option (List ℕ)
 line_at zero ls = None
-line_at (suc n) [] = None
-line_at (suc zero) (l ∷ ls) = Some l
-line_at (suc (suc n)) (l ∷ ls) = line_at (suc n) ls
+line_at (suc n) ls = slice_get ls n

@@ -1,5 +1,6 @@
 -- The ranges of the numbers in a line.
-use Rattle.std.specs.Prelude.{Bool, true, false, ◌&&◌, List, [], ◌∷◌, ℤ, pos, int_le}
+use Rattle.std.specs.Prelude.{Bool, true, ◌&&◌, List, ℤ, pos, int_le}
+use Rattle.std.specs.List.{list_all}
 use Rattle.decimal.specs.Numbers.{cell_range}
 use Rattle.isa.specs.Table.{operand}
 use Rattle.isa.specs.declared.opcode.Operand.{Operand}
@@ -24,8 +25,7 @@ item_range o (at w) = true
 item_range o (byte c) = true
 
 abbrev pub items_range : Operand → List Item → Bool
-items_range o [] = true
-items_range o (i ∷ is) = item_range o i && items_range o is
+items_range o is = list_all (item_range o) is
 
 -- a token of DW that is a number
 abbrev pub figure_range : Tok → Bool
@@ -36,8 +36,7 @@ figure_range (text s) = true
 figure_range (sign c) = true
 
 abbrev pub figures_range : List Tok → Bool
-figures_range [] = true
-figures_range (t ∷ ts) = elim (figure_range t) [ true ↦ figures_range ts | false ↦ false ]
+figures_range ts = list_all figure_range ts
 
 -- are all numbers of a line in range?
 abbrev pub range : Form → Bool

@@ -7,7 +7,7 @@ ghost use Rattle.syntax.specs.Meant.{meant};
 ghost use Rattle.syntax.specs.Stated.{stated, argued};
 
 use crate::statements::{Argument, Statement};
-use crate::tokens::{Token, next_token};
+use crate::tokens::{Token, Tokens};
 use decimal::cell_number;
 
 fn span_of(token: Token) -> usize
@@ -25,13 +25,7 @@ fn cells_in(list: &[u8]) -> usize
     ensures is { result ≡ spans (tokens list.now) }
     ensures within { result ≤ length list.now }
 {
-    let mut n = 0;
-    let mut rest = list;
-    while let Some((token, after)) = next_token(rest) {
-        n += span_of(token);
-        rest = after;
-    }
-    n
+    Tokens::new(list).map(span_of).sum()
 }
 
 // How many copies a count asks for, up to 1,000; a count out of range asks for none.

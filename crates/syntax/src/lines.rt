@@ -26,19 +26,36 @@ pub fn next_line<'a>(text: &'a [u8]) -> Option<(&'a [u8], &'a [u8])>
 pub fn line_in<'a>(text: &'a [u8], number: usize) -> Option<&'a [u8]>
     ensures { MatchOption result (line_at number (lines text.now) ≡ None) (λ l. line_at number (lines text.now) ≡ Some l.now) }
 {
-    if number == 0 {
-        return None;
+    Lines::new(text).nth(number.checked_sub(1)?)
+}
+
+// The lines of a text, in order.
+#[derive(Drop)]
+pub struct Lines<'a> {
+    rest: &'a [u8],
+}
+
+impl<'a> Lines<'a> {
+    pub fn new(text: &'a [u8]) -> Lines<'a>
+        ensures lines { lines_left result ≡ lines text.now }
+        ensures count { length (lines_left result) ≤ length text.now }
+    {
+        Lines { rest: text }
     }
-    let mut rest = text;
-    let mut left = number;
-    while let Some((line, after)) = next_line(rest) {
-        if left == 1 {
-            return Some(line);
-        }
-        left -= 1;
-        rest = after;
+}
+
+impl<'a> Iterator for Lines<'a> {
+    type Item = &'a [u8];
+
+    ghost next_gives = { YieldsFirstRef lines_left };
+
+    ghost remaining = { item_count lines_left };
+
+    fn next(&mut self) -> Option<&'a [u8]> {
+        let (line, rest) = next_line(self.rest)?;
+        self.rest = rest;
+        Some(line)
     }
-    None
 }
 
 // The lines of a text, in order.

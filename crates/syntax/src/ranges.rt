@@ -8,7 +8,7 @@ ghost use Rattle.syntax.specs.Meant.{meant};
 ghost use Rattle.syntax.specs.Stated.{argued, stated};
 
 use crate::statements::{Argument, Statement};
-use crate::tokens::{Token, next_token};
+use crate::tokens::{Token, Tokens};
 use decimal::cell_number;
 use isa::{Opcode, Operand, operand_of};
 
@@ -23,10 +23,7 @@ fn is_cell(number: &[u8]) -> bool
 fn is_within(number: &[u8], low: u16, high: u16) -> bool
     ensures { result ≡ within (pos low) (pos high) (numeral number.now) }
 {
-    match cell_number(number) {
-        Some(n) => i32::from(low) <= n && n <= i32::from(high),
-        None => false,
-    }
+    cell_number(number).is_some_and(|n| (i32::from(low)..=i32::from(high)).contains(&n))
 }
 
 // A count goes from 0 to 1,000, and any other number has 32 signed bits.
@@ -55,14 +52,7 @@ fn is_figure(token: Token) -> bool
 fn are_figures(list: &[u8]) -> bool
     ensures { result ≡ figures_range (tokens list.now) }
 {
-    let mut rest = list;
-    while let Some((token, after)) = next_token(rest) {
-        if !is_figure(token) {
-            return false;
-        }
-        rest = after;
-    }
-    true
+    Tokens::new(list).all(is_figure)
 }
 
 // Are all numbers of a statement in range? A unit has 0 to 255 arguments and 0 or 1 results, and DUP makes 1 to

@@ -130,7 +130,8 @@ pub struct Tokens<'a> {
 
 impl<'a> Tokens<'a> {
     pub fn new(line: &'a [u8]) -> Tokens<'a>
-        ensures { tokens_left result ≡ tokens line.now }
+        ensures tokens { tokens_left result ≡ tokens line.now }
+        ensures count { length (tokens_left result) ≤ length line.now }
     {
         Tokens { rest: line }
     }
