@@ -4,7 +4,8 @@
 // slots hold when the list ends: they are the same slots (`lender`), and each call says which of them it wrote.
 mod list;
 
-ghost use Rattle.std.specs.Prelude.{◌≡◌, ℕ, ◌+◌, ◌-◌, ◌<◌, ◌≤◌, min, List, [], ◌∷◌, ◌++◌, length, replicate, MatchOption, MatchResult, slice_index_or, slice_set};
+ghost use Rattle.std.specs.List.{AllZip};
+ghost use Rattle.std.specs.Prelude.{◌≡◌, ℕ, ◌+◌, ◌-◌, ◌<◌, ◌≤◌, min, List, [], ◌∷◌, ◌++◌, length, drop, replicate, MatchOption, MatchResult, slice_index_or, slice_set};
 ghost use Rattle.slots.specs.Items.{items, room, slots_of};
 
 pub use list::SlotList;
@@ -58,11 +59,7 @@ impl<'a, T: Copy> SlotList<'a, T> {
     pub fn get(&self, place: usize) -> Option<T>
         ensures { MatchOption result (length (items self.now) ≤ place) (λ x. (place < length (items self.now)) × (x ≡ slice_index_or (items self.now) place x)) }
     {
-        let items = self.items();
-        if place >= items.len() {
-            return None;
-        }
-        Some(items[place])
+        self.items().get(place).copied()
     }
 
     // Another element at a place that has one; elsewhere the element comes back, and all stays as it was.
@@ -100,9 +97,7 @@ impl<'a, T: Copy> SlotList<'a, T> {
         ensures room { room self.new ≡ room self.old }
         ensures slots { slots_of self.new ≡ items self.old ++ replicate (length (slots_of self.old) - self.old.len) value }
     {
-        for i in self.len..self.slots.len() {
-            self.slots[i] = value;
-        }
+        self.slots[self.len..].fill_with(|| value);
     }
 
     // Empties the list and writes a value into every slot.
@@ -113,8 +108,28 @@ impl<'a, T: Copy> SlotList<'a, T> {
         ensures slots { slots_of self.new ≡ replicate (length (slots_of self.old)) value }
     {
         self.len = 0;
-        for i in 0..self.slots.len() {
-            self.slots[i] = value;
-        }
+        self.slots.fill_with(|| value);
+    }
+
+    // Each element becomes what `change` makes of it; the other slots stay as they were.
+    pub fn change_each<F: Fn(T) -> T>(&mut self, change: F)
+        requires { F.IsAlwaysCallable change }
+        ensures lender { self.new.slots.ghost_name ≡ self.old.slots.ghost_name }
+        ensures len { self.new.len ≡ self.old.len }
+        ensures room { room self.new ≡ room self.old }
+        ensures items { AllZip (λ x y. F.post change x y) (items self.old) (items self.new) }
+        ensures rest { drop self.old.len (slots_of self.new) ≡ drop self.old.len (slots_of self.old) }
+    {
+        change_all(&mut self.slots[..self.len], change);
+    }
+}
+
+// Each element becomes what `change` makes of it.
+fn change_all<T: Copy, F: Fn(T) -> T>(elements: &mut [T], change: F)
+    requires { F.IsAlwaysCallable change }
+    ensures { AllZip (λ x y. F.post change x y) elements.old elements.new }
+{
+    for x in elements.iter_mut() {
+        *x = change(*x);
     }
 }
