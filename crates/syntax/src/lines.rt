@@ -57,31 +57,3 @@ impl<'a> Iterator for Lines<'a> {
         Some(line)
     }
 }
-
-// The lines of a text, in order.
-#[derive(Drop)]
-pub struct Lines<'a> {
-    rest: &'a [u8],
-}
-
-impl<'a> Lines<'a> {
-    pub fn new(text: &'a [u8]) -> Lines<'a>
-        ensures { lines_left result ≡ lines text.now }
-    {
-        Lines { rest: text }
-    }
-}
-
-impl<'a> Iterator for Lines<'a> {
-    type Item = &'a [u8];
-
-    ghost next_gives = { YieldsFirstRef lines_left };
-
-    ghost remaining = { item_count lines_left };
-
-    fn next(&mut self) -> Option<&'a [u8]> {
-        let (line, rest) = next_line(self.rest)?;
-        self.rest = rest;
-        Some(line)
-    }
-}
