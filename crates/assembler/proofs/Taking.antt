@@ -1,14 +1,39 @@
 -- A line that is taken.
-use Rattle.std.proofs.Common.{◌≡◌, ℕ, Bool, List, length, Option, sym, ap, ◌∙◌}
+use Rattle.std.proofs.Common.{◌≡◌, ℕ, Bool, List, length, Option, sym, refl, ap, ◌∙◌}
+use denote.Enum.Bare.{sameb}
+use Rattle.program.specs.contracts.section.Section.{the_type}
 use Rattle.program.specs.declared.fault.AssemblyCause.TheVariants.{WrongSection}
+use Rattle.program.specs.declared.section.Section.{Section}
+use Rattle.program.specs.declared.section.Section.TheVariants.{Code, Data, Heap}
+use Rattle.slots.specs.Items.{room}
 use Rattle.syntax.specs.Forms.{Form}
 use Rattle.syntax.specs.Cells.{cells}
-use Rattle.assembler.specs.Survey.{Survey, demand, putting, taken}
+use Rattle.assembler.specs.declared.lists.Lists.{Lists}
+use Rattle.assembler.specs.declared.tally.Tally.{Tally}
+use Rattle.assembler.specs.Cells.{same_section}
+use Rattle.assembler.specs.Progress.{survey_of}
+use Rattle.assembler.specs.Survey.{demand, is_code, putting, taken}
+
+-- what `==` says of two sections
+pub is_code_eq : (p : Section) (b : Bool) → b ≡ sameb the_type p Code → b ≡ is_code p
+is_code_eq Code b e = e
+is_code_eq Data b e = e
+is_code_eq Heap b e = e
+
+pub same_section_eq : (p q : Section) (b : Bool) → b ≡ sameb the_type p q → b ≡ same_section q p
+same_section_eq Code Code b e = e
+same_section_eq Code Data b e = e
+same_section_eq Code Heap b e = e
+same_section_eq Data Code b e = e
+same_section_eq Data Data b e = e
+same_section_eq Data Heap b e = e
+same_section_eq Heap Code b e = e
+same_section_eq Heap Data b e = e
+same_section_eq Heap Heap b e = e
 
 -- cells in the section that they belong to
-pub put_taken : (l u : ℕ) (s : Survey) (f : Form) (w : Option (List ℕ)) (want b : Bool) (n : ℕ) → taken l u s f ≡ demand want WrongSection (putting l u s w (length (cells f))) → b ≡ want → n ≡ length (cells f)
-    → demand b WrongSection (putting l u s w n) ≡ taken l u s f
-put_taken l u s f w want b n h e g =
-    ap (λ x. demand x WrongSection (putting l u s w n)) e
-    ∙ ap (λ m. demand want WrongSection (putting l u s w m)) g
-    ∙ sym h
+pub put_taken : (a : Lists) (t : Tally) (f : Form) (w : Option (List ℕ)) (want b : Bool) (n : ℕ) → taken (room a.labels) (room a.units) (survey_of t a) f ≡ demand want WrongSection (putting (room a.labels) (room a.units) (survey_of t a) w (length (cells f))) → b ≡ want → n ≡ length (cells f)
+    → demand b WrongSection (putting (room a.labels) (room a.units) (survey_of t a) w n) ≡ taken (room a.labels) (room a.units) (survey_of t a) f
+put_taken a t f w want b n h e g =
+    let put = putting (room a.labels) (room a.units) (survey_of t a) w in
+    ap (λ x. demand x WrongSection (put n)) e ∙ ap (λ m. demand want WrongSection (put m)) g ∙ sym h

@@ -8,11 +8,9 @@ use Rattle.slots.specs.declared.list.SlotList.{SlotList}
 use Rattle.std.proofs.lemmas.List.{map-append}
 use Rattle.syntax.specs.Cells.{cells}
 use Rattle.syntax.specs.Forms.{Item, value, byte, Form, form}
-use Rattle.syntax.specs.Lines.{lines}
 use Rattle.syntax.specs.Stated.{line_form}
 use Rattle.syntax.specs.declared.statements.LineFault.{LineFault}
 use Rattle.syntax.specs.declared.statements.LineFault.TheVariants as L
-use Rattle.assembler.specs.Assembly.{forms}
 use Rattle.assembler.specs.Cells.{cell, in_cell, items_in, same_section, following_section}
 use Rattle.assembler.specs.Marks.{Mark}
 use Rattle.assembler.specs.Progress.{Puts}
@@ -53,17 +51,14 @@ items_on want p f fs = go (same_section want p) refl
     go true e = rw (e, items_in) refl
     go false e = rw (e, items_in) refl
 
-pub items_more : (ls : List Mark) (want p q : Section) (b : Bool) (rest line after : List ℕ) → lines rest ≡ line ∷ lines after → b ≡ same_section want p → q ≡ following_section p (form line)
-    → map (cell ls) (items_in want p (forms rest)) ≡ map (cell ls) (cond b (cells (form line)) []) ++ map (cell ls) (items_in want q (forms after))
+pub items_more : (ls : List Mark) (want p q : Section) (b : Bool) (rest : List (List ℕ)) (line : List ℕ) (after : List (List ℕ)) → rest ≡ line ∷ after → b ≡ same_section want p → q ≡ following_section p (form line)
+    → map (cell ls) (items_in want p (map form rest)) ≡ map (cell ls) (cond b (cells (form line)) []) ++ map (cell ls) (items_in want q (map form after))
 items_more ls want p q b rest line after e f g =
     ap (λ vs. map (cell ls) (items_in want p (map form vs))) e
-    ∙ ap (map (cell ls)) (items_on want p (form line) (forms after))
-    ∙ map-append (cell ls) (cond (same_section want p) (cells (form line)) []) (items_in want (following_section p (form line)) (forms after))
-    ∙ ap (λ c. map (cell ls) (cond c (cells (form line)) []) ++ map (cell ls) (items_in want (following_section p (form line)) (forms after))) (sym f)
-    ∙ ap (λ r. map (cell ls) (cond b (cells (form line)) []) ++ map (cell ls) (items_in want r (forms after))) (sym g)
-
-pub items_none : (ls : List Mark) (want p : Section) (rest : List ℕ) → lines rest ≡ [] → map (cell ls) (items_in want p (forms rest)) ≡ []
-items_none ls want p rest e = ap (λ vs. map (cell ls) (items_in want p (map form vs))) e
+    ∙ ap (map (cell ls)) (items_on want p (form line) (map form after))
+    ∙ map-append (cell ls) (cond (same_section want p) (cells (form line)) []) (items_in want (following_section p (form line)) (map form after))
+    ∙ ap (λ c. map (cell ls) (cond c (cells (form line)) []) ++ map (cell ls) (items_in want (following_section p (form line)) (map form after))) (sym f)
+    ∙ ap (λ r. map (cell ls) (cond b (cells (form line)) []) ++ map (cell ls) (items_in want r (map form after))) (sym g)
 
 -- an opcode's number is a cell
 pub opcode_cell : (op : Opcode) → pos (number op) ≡ in_cell (pos (number op))

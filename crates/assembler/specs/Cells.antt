@@ -1,5 +1,6 @@
 -- The cells of a program, once its labels have addresses.
 use Rattle.std.specs.Prelude.{ℕ, suc, ◌+◌, ◌^◌, Bool, true, false, List, [], ◌∷◌, ◌++◌, ℤ, pos, Some, None, Option, nat_lt}
+use Rattle.std.specs.List.{list_all}
 use Rattle.program.specs.Names.{smalls}
 use Rattle.program.specs.declared.section.Section.{Section}
 use Rattle.program.specs.declared.section.Section.TheVariants.{Code, Data, Heap}
@@ -48,8 +49,7 @@ module _ (ls : List Mark) where
   known (byte c) = true
 
   abbrev pub all_known : List Item → Bool
-  all_known [] = true
-  all_known (i ∷ is) = elim (known i) [ true ↦ all_known is | false ↦ false ]
+  all_known is = list_all known is
 
   -- have all names that a line uses a label?
   abbrev pub resolved : Form → Bool

@@ -34,7 +34,8 @@ fn is_token_known(labels: &[Label], token: Token) -> bool
 {
     match token {
         Token::Name(name) => is_known(labels, name),
-        _ => true,
+        Token::Text(_) => true,
+        Token::Number(_) | Token::Character(_) | Token::Sign(_) => true,
     }
 }
 

@@ -11,14 +11,14 @@ use program::{Assembled, Fault, Label, Unit};
 use slots::SlotList;
 
 // Zeros in every cell and slot, written or not.
-fn zero_all(written: &mut SlotList<i32>, lists: &mut Lists)
+fn zero_all(written: &mut SlotList<i32>, labels: &mut SlotList<Label>, units: &mut SlotList<Unit>)
     ensures cells { Cleared (λ z. z ≡ pos 0) written.old written.new }
-    ensures labels { Cleared NoLabel lists.old.labels lists.new.labels }
-    ensures units { Cleared NoUnit lists.old.units lists.new.units }
+    ensures labels { Cleared NoLabel labels.old labels.new }
+    ensures units { Cleared NoUnit units.old units.new }
 {
     written.clear(0);
-    lists.labels.clear(Label::empty());
-    lists.units.clear(Unit::empty());
+    labels.clear(Label::empty());
+    units.clear(Unit::empty());
 }
 
 // The same, for a memory and texts of lawful sizes.
@@ -38,15 +38,20 @@ pub(crate) fn assemble_fit(
         labels: SlotList::new(labels, 512),
         units: SlotList::new(units, 64),
     };
-    match build(cells, texts, &mut written, &mut lists) {
+    let built = build(cells, texts, &mut written, &mut lists);
+    let Lists {
+        labels: mut label_list,
+        units: mut unit_list,
+    } = lists;
+    match built {
         Ok(program) => {
             written.fill_rest(0);
-            lists.labels.fill_rest(Label::empty());
-            lists.units.fill_rest(Unit::empty());
+            label_list.fill_rest(Label::empty());
+            unit_list.fill_rest(Unit::empty());
             Ok(program)
         }
         Err(fault) => {
-            zero_all(&mut written, &mut lists);
+            zero_all(&mut written, &mut label_list, &mut unit_list);
             Err(fault)
         }
     }

@@ -1,9 +1,9 @@
 // Sections follow one another in memory: labels get their addresses, and units their entries.
 ghost use Rattle.assembler.specs.Cells.{base, laid, opening, or_zero, word};
-ghost use Rattle.assembler.specs.Marks.{Entry, Mark, entry_of, find as find_mark, mark_of};
+ghost use Rattle.assembler.specs.Marks.{entry_of, find as find_mark, mark_of};
 ghost use Rattle.assembler.specs.Progress.{Kept, Small, entries, marks};
 ghost use Rattle.program.specs.Names.{smalls};
-ghost use Rattle.std.specs.Prelude.{◌≡◌, ◌+◌, ◌<◌, ◌≤◌, map, slice_index_or, slice_set};
+ghost use Rattle.std.specs.Prelude.{◌≡◌, ◌≤◌, map};
 
 use crate::finding::find;
 use crate::tally::Tally;
@@ -39,19 +39,6 @@ fn placed(tally: Tally, label: Label) -> Label
     Label { address, ..label }
 }
 
-// The label at a place gets its address.
-fn lay_one(tally: Tally, labels: &mut SlotList<Label>, i: usize)
-    requires small { Small tally 1000000000 }
-    requires within { i < labels.old.len }
-    ensures labels { (d : Mark) → marks labels.new ≡ slice_set (marks labels.old) i (laid tally (slice_index_or (marks labels.old) i d)) }
-    ensures kept { Kept labels.old labels.new }
-    ensures len { labels.new.len ≡ labels.old.len }
-{
-    if let Some(label) = labels.get(i) {
-        let _ = labels.replace(i, placed(tally, label));
-    }
-}
-
 // Labels get their addresses in memory.
 pub(crate) fn lay_out(tally: Tally, labels: &mut SlotList<Label>)
     requires { Small tally 1000000000 }
@@ -59,9 +46,7 @@ pub(crate) fn lay_out(tally: Tally, labels: &mut SlotList<Label>)
     ensures kept { Kept labels.old labels.new }
     ensures len { labels.new.len ≡ labels.old.len }
 {
-    for i in 0..labels.len() {
-        lay_one(tally, labels, i);
-    }
+    labels.change_each(|label| placed(tally, label));
 }
 
 // The address of the label of that name, or 0.
@@ -79,25 +64,11 @@ fn opened(labels: &[Label], unit: Unit) -> Unit
     Unit { entry, ..unit }
 }
 
-// The unit at a place gets its entry.
-fn open_one(labels: &[Label], units: &mut SlotList<Unit>, i: usize)
-    requires { i < units.old.len }
-    ensures units { (d : Entry) → entries units.new ≡ slice_set (entries units.old) i (opening (map mark_of labels.now) (slice_index_or (entries units.old) i d)) }
-    ensures kept { Kept units.old units.new }
-    ensures len { units.new.len ≡ units.old.len }
-{
-    if let Some(unit) = units.get(i) {
-        let _ = units.replace(i, opened(labels, unit));
-    }
-}
-
 // Units get their entries, the addresses of their labels.
 pub(crate) fn open_units(labels: &[Label], units: &mut SlotList<Unit>)
     ensures units { entries units.new ≡ map (opening (map mark_of labels.now)) (entries units.old) }
     ensures kept { Kept units.old units.new }
     ensures len { units.new.len ≡ units.old.len }
 {
-    for i in 0..units.len() {
-        open_one(labels, units, i);
-    }
+    units.change_each(|unit| opened(labels, unit));
 }

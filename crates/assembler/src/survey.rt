@@ -113,7 +113,7 @@ fn add_unit(
     )
 }
 
-impl Lists<'_> {
+impl Lists<'_, '_> {
     // n cells, at a label or not.
     fn put_cells(
         &mut self,
@@ -216,8 +216,9 @@ impl Lists<'_> {
     {
         let mut tally = start;
         for (i, line) in Lines::new(text).enumerate() {
+            let number = i as u32 + 1;
             tally = self.survey_line(line, tally).map_err(|cause| LineCause {
-                line: i as u32 + 1,
+                line: number,
                 cause,
             })?;
         }

@@ -1,24 +1,44 @@
-use Rattle.std.proofs.Common.{◌≡◌, List, map, length, sym, ap, ◌∙◌, arith}
+use Rattle.std.proofs.Common.{◌≡◌, List, map, length, sym, ap, ◌∙◌, subst, arith}
 use Rattle.std.proofs.lemmas.List.{length-map, length-take-le}
+use Rattle.std.proofs.lemmas.Result.{err_from_is_err_and}
 use Rattle.program.specs.declared.label.Label.{Label}
 use Rattle.slots.specs.Items.{items, slots_of}
 use Rattle.assembler.specs.Assembly.{forms, linked, made}
+use Rattle.assembler.specs.Builds.{Refuses}
 use Rattle.assembler.specs.Cells.{all, cell, opening}
 use Rattle.assembler.specs.Marks.{mark_of, entry_of}
 use Rattle.assembler.specs.Progress.{entries, marks}
 use Rattle.assembler.specs.Survey.{surveyed}
 use Rattle.assembler.proofs.Clips.{puts_as}
-use Rattle.assembler.proofs.Passes.{built, counts_same}
+use Rattle.assembler.proofs.Passes.{built, counts_same, unlinked}
+use Rattle.assembler.proofs.Surveys.{kept_same}
 use Rattle.assembler.proofs.building.link.Goals as goal
 
-pub returns-in-None : goal.returns-in-None
-returns-in-None c =
+pub returns-in_err-check_names : goal.returns-in_err-check_names
+returns-in_err-check_names c =
     let n = c.args.cells in
-    let site = forms c.args.site.now in
-    let library = forms c.args.library.now in
+    let site = forms c.args.texts.site.now in
+    let library = forms c.args.texts.library.now in
     let t = c.args.tally in
-    let l = c.args.labels.now in
-    let u = c.args.units.now in
+    let l = c.args.lists.now.labels in
+    let u = c.args.lists.now.units in
+    let f = c.in_err-check_names.field-0.0 in
+    let p = err_from_is_err_and c.from_residual.result c.from_residual.ensures.1 in
+    record {
+      builds = unlinked n site library t (marks l) (marks c.lay_out.new.labels) (entries u) (entries u) _ c.from_residual.result p.0 f c.if-code-data.false c.lay_out.ensures.labels p.1 p.2
+          (subst (λ (xs : List Label). Refuses f (linked n site library (surveyed t (marks l) (entries u)) (map mark_of xs))) c.items.ensures (c.in_err-check_names.ensures n (surveyed t (marks l) (entries u))));
+      written = kept_same c.args.written.now;
+      kept = record { labels = c.lay_out.ensures.kept; units = kept_same u };
+    }
+
+pub returns : goal.returns
+returns c =
+    let n = c.args.cells in
+    let site = forms c.args.texts.site.now in
+    let library = forms c.args.texts.library.now in
+    let t = c.args.tally in
+    let l = c.args.lists.now.labels in
+    let u = c.args.lists.now.units in
     let m = marks l in
     let e = entries u in
     let ls = marks c.lay_out.new.labels in
@@ -27,18 +47,17 @@ returns-in-None c =
     let k : length m ≡ l.len = length-map (items l) mark_of ∙ length-take-le l.len (slots_of l) (omega arith) in
     let j : length e ≡ u.len = length-map (items u) entry_of ∙ length-take-le u.len (slots_of u) (omega arith) in
     let a = c.len.ensures ∙ c.lay_out.ensures.len ∙ sym k in
-    let b = c.len-in-None.ensures ∙ c.open_units.ensures.len ∙ sym j in
+    let b = c.len-2.ensures ∙ c.open_units.ensures.len ∙ sym j in
     let f = λ (xs : List Label). map mark_of xs in
     let g = λ (xs : List Label). linked n site library (surveyed t m e) (f xs) ≡ made n site library (surveyed t m e) (f xs) in
     record {
       builds = built n site library t m ls e (entries c.open_units.new.units) _ v w c.finished.result c.finished.ensures
-          (counts_same n t.code t.data t.heap c.len.result c.len-in-None.result (length m) (length e) a b)
+          (counts_same n t.code t.data t.heap c.len.result c.len-2.result (length m) (length e) a b)
           c.if-code-data.false c.requires.extents c.lay_out.ensures.labels
-          (ap (λ xs. linked n site library (surveyed t m e) (f xs)) (sym c.items.ensures) ∙ c.in-None.ensures n (surveyed t m e) ∙ ap (λ xs. made n site library (surveyed t m e) (f xs)) c.items.ensures)
-          (puts_as v w _ (map (cell ls) (all site library)) (ap (λ xs. map (cell (f xs)) (all site library)) c.items-in-None.ensures) c.write_all.ensures)
+          (ap (λ xs. linked n site library (surveyed t m e) (f xs)) (sym c.items.ensures) ∙ c.in_ok-check_names.ensures n (surveyed t m e) ∙ ap (λ xs. made n site library (surveyed t m e) (f xs)) c.items.ensures)
+          (puts_as v w _ (map (cell ls) (all site library)) (ap (λ xs. map (cell (f xs)) (all site library)) c.items-2.ensures) c.write_all.ensures)
           c.requires.fresh.none c.requires.fresh.whole
-          (c.open_units.ensures.units ∙ ap (λ xs. map (opening (f xs)) e) c.items-in-None-2.ensures);
+          (c.open_units.ensures.units ∙ ap (λ xs. map (opening (f xs)) e) c.items-3.ensures);
       written = c.write_all.ensures.kept;
-      labels = c.lay_out.ensures.kept;
-      units = c.open_units.ensures.kept;
+      kept = record { labels = c.lay_out.ensures.kept; units = c.open_units.ensures.kept };
     }

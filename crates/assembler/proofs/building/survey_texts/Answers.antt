@@ -1,27 +1,49 @@
-use Rattle.std.proofs.Common.{◌∙◌, arith}
+use Rattle.std.proofs.Common.{◌≡◌, sym, ap, ◌∙◌, subst, arith, rules}
+use Rattle.std.proofs.lemmas.Result.{err_from_is_err_and}
+use Rattle.program.specs.declared.fault.Fault.TheVariants as F
+use Rattle.program.specs.declared.fault.Place.TheVariants.{Line}
+use Rattle.program.specs.declared.fault.Text.TheVariants.{Site}
 use Rattle.slots.specs.Items.{room}
 use Rattle.assembler.specs.Assembly.{forms}
-use Rattle.assembler.specs.Progress.{entries, marks}
-use Rattle.assembler.proofs.Passes.{taken_both}
+use Rattle.assembler.specs.Builds.{Surveys, Tallied}
+use Rattle.assembler.specs.Progress.{Bounded, entries, marks, surveyed_to}
+use Rattle.assembler.specs.Survey.{fresh}
+use Rattle.assembler.proofs.Exits.{mapped_err, mapped_ok}
+use Rattle.assembler.proofs.Passes.{passes, refused_first}
+use Rattle.assembler.proofs.Surveys.{both_then}
 use Rattle.assembler.proofs.building.survey_texts.Goals as goal
 
-pub survey_text-requires-in-Ok : goal.survey_text-requires-in-Ok
-survey_text-requires-in-Ok c =
-    let t = c.in-Ok.ensures.grows 0 (omega arith, omega arith, omega arith) in
-    let s = c.reopened.ensures.small 65536000 t in
-    record { short = c.requires.short_library; small = (omega arith, omega arith, omega arith) }
-
-pub returns-in-Ok-survey_text : goal.returns-in-Ok-survey_text
-returns-in-Ok-survey_text c =
-    let a = c.in-Ok.ensures in
-    let b = c.in-Ok-survey_text.ensures in
-    let ls = c.args.labels.now in
-    let us = c.args.units.now in
-    let t = a.grows 0 (omega arith, omega arith, omega arith) in
-    let v = b.grows 65536000 (c.reopened.ensures.small 65536000 t) in
+pub returns-in_err-tally : goal.returns-in_err-tally
+returns-in_err-tally c =
+    let a = c.args.lists.now in
+    let b = c.survey_text.new.self in
+    let site = forms c.args.texts.site.now in
+    let library = forms c.args.texts.library.now in
+    let p = err_from_is_err_and c.from_residual.result c.from_residual.ensures.1 in
+    let m = mapped_err c.survey_text.result c.map_err.result _ c.in_err-tally.field-0.0 c.map_err.ensures.cases c.in_err-tally.was in
+    let q = m.2 in
+    let k : c.in_err-tally.field-0.0 ≡ F.Assembly m.0.cause (Line Site m.0.line) = search rules in
+    let f = refused_first site library a b c.survey_text.result m.0 p.0 c.requires.no_labels c.requires.no_units c.survey_text.ensures.survey m.1 (p.2 ∙ k) in
     record {
-      small = (omega arith, omega arith, omega arith);
-      surveys = taken_both (forms c.args.site.now) (forms c.args.library.now) (room ls) (room us) _ _ (marks ls) _ _ (entries us) _ _ c.in-Ok.tally c.in-Ok-survey_text.tally c.reopened.result c.requires.no_labels c.requires.no_units a.survey c.reopened.ensures.is a.labels.room a.units.room b.survey;
-      labels = record { room = b.labels.room ∙ a.labels.room; lender = b.labels.lender ∙ a.labels.lender };
-      units = record { room = b.units.room ∙ a.units.room; lender = b.units.lender ∙ a.units.lender };
+      surveys = subst (λ r. Surveys site library (room a.labels) (room a.units) r (marks b.labels) (entries b.units)) (sym p.1) f;
+      small = subst Tallied (sym p.1) tt;
+      kept = c.survey_text.ensures.kept;
     }
+
+pub survey_text-requires-2 : goal.survey_text-requires-2
+survey_text-requires-2 c =
+    let m = mapped_ok c.survey_text.result c.map_err.result _ c.in_ok-tally.tally c.map_err.ensures.cases c.in_ok-tally.was in
+    let t = subst (Bounded fresh.tally) m c.survey_text.ensures.grows 0 (omega arith, omega arith, omega arith) in
+    let s = c.reopened.ensures.small 65536000 t in
+    record { short = omega arith; small = (omega arith, omega arith, omega arith) }
+
+pub returns : goal.returns
+returns c =
+    let a = c.args.lists.now in
+    let b = c.survey_text.new.self in
+    let d = c.survey_text-2.new.self in
+    let m = mapped_ok c.survey_text.result c.map_err.result _ c.in_ok-tally.tally c.map_err.ensures.cases c.in_ok-tally.was in
+    let t = subst (Bounded fresh.tally) m c.survey_text.ensures.grows 0 (omega arith, omega arith, omega arith) in
+    let f = passes (forms c.args.texts.site.now) (forms c.args.texts.library.now) a b d c.in_ok-tally.tally c.requires.no_labels c.requires.no_units (sym (ap (λ r. surveyed_to r b) m) ∙ c.survey_text.ensures.survey) c.survey_text.ensures.kept t
+            c.survey_text-2.result c.map_err-2.result _ c.reopened.result c.reopened.ensures.is c.survey_text-2.ensures.survey c.survey_text-2.ensures.grows c.map_err-2.ensures.cases (λ e g k. search rules) in
+    record { surveys = f.0; small = f.1; kept = both_then a b d c.survey_text.ensures.kept c.survey_text-2.ensures.kept }

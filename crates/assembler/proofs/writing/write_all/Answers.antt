@@ -10,8 +10,8 @@ use Rattle.assembler.proofs.writing.write_all.Goals as goal
 pub returns : goal.returns
 returns c =
     let ls = map mark_of c.args.labels.now in
-    let site = forms c.args.site.now in
-    let library = forms c.args.library.now in
+    let site = forms c.args.texts.site.now in
+    let library = forms c.args.texts.library.now in
     let xs = both Code site library in
     let ys = both Data site library in
     let zs = both Heap site library in

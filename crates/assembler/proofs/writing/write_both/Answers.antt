@@ -13,6 +13,6 @@ returns c =
     let a = c.args.written.now in
     let b = c.write_section.new.written in
     let d = c.write_section-2.new.written in
-    let xs = items_in c.args.want Code (forms c.args.site.now) in
-    let ys = items_in c.args.want Code (forms c.args.library.now) in
+    let xs = items_in c.args.want Code (forms c.args.texts.site.now) in
+    let ys = items_in c.args.want Code (forms c.args.texts.library.now) in
     puts_as a d _ _ (sym (map-append (cell ls) xs ys)) (puts_then a b d (map (cell ls) xs) (map (cell ls) ys) c.write_section.ensures c.write_section-2.ensures)

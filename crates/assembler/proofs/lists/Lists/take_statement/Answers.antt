@@ -1,0 +1,62 @@
+use Rattle.std.proofs.Common.{◌≤◌, not, length, sym, ap, ◌∙◌}
+use Rattle.std.proofs.lemmas.List.{length-map}
+use Rattle.program.specs.Names.{small, smalls}
+use Rattle.program.specs.declared.fault.AssemblyCause.TheVariants.{WrongSection}
+use Rattle.slots.specs.Items.{room}
+use Rattle.syntax.specs.Cells.{cells}
+use Rattle.syntax.specs.Stated.{label_of, stated}
+use Rattle.assembler.specs.Progress.{survey_of}
+use Rattle.assembler.specs.Survey.{demand, is_code, putting, taken}
+use Rattle.assembler.proofs.Taking.{is_code_eq, put_taken}
+use Rattle.assembler.proofs.lists.Lists.take_statement.Goals as goal
+
+pub declare-requires : goal.declare-requires
+declare-requires c =
+    let w = c.in-Unit.name.now in
+    let h : length (smalls w) ≤ 31 = rw c.in-Unit.is at c.requires.limited.name in
+    rw (length-map w small) at h
+
+pub returns-in-Unit : goal.returns-in-Unit
+returns-in-Unit c =
+    let a = c.args.self.now in
+    record {
+      step = c.declare.ensures.step ∙ sym (ap (λ s. taken (room a.labels) (room a.units) (survey_of c.args.tally a) (stated s)) c.in-Unit.is);
+      kept = c.declare.ensures.kept;
+      grows = c.declare.ensures.grows;
+    }
+
+pub returns-in-Instruction : goal.returns-in-Instruction
+returns-in-Instruction c =
+    let a = c.args.self.now in
+    let t = c.args.tally in
+    let e = is_code_eq t.section c.eq-code.result c.eq-code.ensures in
+    record {
+      step = c.put_allowed.ensures.step
+          ∙ put_taken a t (stated c.args.statement) (label_of c.in-Instruction.label) (is_code t.section) c.eq-code.result c.cells_of-n.result (ap (λ s. taken (room a.labels) (room a.units) (survey_of t a) (stated s)) c.in-Instruction.is ∙ sym (ap (λ s. demand (is_code t.section) WrongSection (putting (room a.labels) (room a.units) (survey_of t a) (label_of c.in-Instruction.label) (length (cells (stated s))))) c.in-Instruction.is)) e c.cells_of-n.ensures;
+      kept = c.put_allowed.ensures.kept;
+      grows = c.put_allowed.ensures.grows;
+    }
+
+pub returns-in-Words : goal.returns-in-Words
+returns-in-Words c =
+    let a = c.args.self.now in
+    let t = c.args.tally in
+    let e = is_code_eq t.section c.eq-code.result c.eq-code.ensures in
+    record {
+      step = c.put_allowed-in-Words.ensures.step
+          ∙ put_taken a t (stated c.args.statement) (label_of c.in-Words.label) (not (is_code t.section)) (not c.eq-code.result) c.cells_of-n.result (ap (λ s. taken (room a.labels) (room a.units) (survey_of t a) (stated s)) c.in-Words.is ∙ sym (ap (λ s. demand (not (is_code t.section)) WrongSection (putting (room a.labels) (room a.units) (survey_of t a) (label_of c.in-Words.label) (length (cells (stated s))))) c.in-Words.is)) (ap not e) c.cells_of-n.ensures;
+      kept = c.put_allowed-in-Words.ensures.kept;
+      grows = c.put_allowed-in-Words.ensures.grows;
+    }
+
+pub returns-in-Copies : goal.returns-in-Copies
+returns-in-Copies c =
+    let a = c.args.self.now in
+    let t = c.args.tally in
+    let e = is_code_eq t.section c.eq-code.result c.eq-code.ensures in
+    record {
+      step = c.put_allowed-in-Copies.ensures.step
+          ∙ put_taken a t (stated c.args.statement) (label_of c.in-Copies.label) (not (is_code t.section)) (not c.eq-code.result) c.cells_of-n.result (ap (λ s. taken (room a.labels) (room a.units) (survey_of t a) (stated s)) c.in-Copies.is ∙ sym (ap (λ s. demand (not (is_code t.section)) WrongSection (putting (room a.labels) (room a.units) (survey_of t a) (label_of c.in-Copies.label) (length (cells (stated s))))) c.in-Copies.is)) (ap not e) c.cells_of-n.ensures;
+      kept = c.put_allowed-in-Copies.ensures.kept;
+      grows = c.put_allowed-in-Copies.ensures.grows;
+    }
