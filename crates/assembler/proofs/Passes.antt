@@ -55,32 +55,32 @@ module _ (site library : List Form) (l u : ℕ) (s t : Survey) (e : survey l u 1
   texts_taken = (λ n. first_done n site library l u s e ∙ second_done n site library l u s t f, counted)
 
 -- the site's lines are refused
-pub refused_first : (site library : List Form) (a b : Lists) (r : Result Tally LineCause) (e : LineCause) (f : Fault) → marks a.labels ≡ [] → entries a.units ≡ [] → surveyed_to r b ≡ survey (room a.labels) (room a.units) 1 (survey_of fresh.tally a) site
-    → r ≡ Err e → f ≡ G.Assembly e.cause (Line Site e.line) → (n : ℕ) → Refuses f (first n site library (room a.labels) (room a.units))
+pub refused_first : (site library : List Form) (a b : Lists) (r : Result Tally LineCause) (e : LineCause) (f : Fault) → marks a.labels.now ≡ [] → entries a.units.now ≡ [] → surveyed_to r b ≡ survey (room a.labels.now) (room a.units.now) 1 (survey_of fresh.tally a) site
+    → r ≡ Err e → f ≡ G.Assembly e.cause (Line Site e.line) → (n : ℕ) → Refuses f (first n site library (room a.labels.now) (room a.units.now))
 refused_first site library a b r e f ls us p q k n =
-    let s : survey (room a.labels) (room a.units) 1 fresh site ≡ fault e.line e.cause = sym (sym (ap (λ v. surveyed_to v b) q) ∙ p ∙ ap (λ m. survey (room a.labels) (room a.units) 1 (surveyed fresh.tally m (entries a.units)) site) ls ∙ ap (λ v. survey (room a.labels) (room a.units) 1 (surveyed fresh.tally [] v) site) us) in
+    let s : survey (room a.labels.now) (room a.units.now) 1 fresh site ≡ fault e.line e.cause = sym (sym (ap (λ v. surveyed_to v b) q) ∙ p ∙ ap (λ m. survey (room a.labels.now) (room a.units.now) 1 (surveyed fresh.tally m (entries a.units.now)) site) ls ∙ ap (λ v. survey (room a.labels.now) (room a.units.now) 1 (surveyed fresh.tally [] v) site) us) in
     rw (k, first, s) refl
 
 -- the library's lines, after the site's
-module _ (site library : List Form) (a b d : Lists) (t : Tally) (ls : marks a.labels ≡ []) (us : entries a.units ≡ []) (p : done (survey_of t b) ≡ survey (room a.labels) (room a.units) 1 (survey_of fresh.tally a) site) (kept : KeptBoth a b) (small : Small t 65536000) where
-  site_taken : survey (room a.labels) (room a.units) 1 fresh site ≡ done (survey_of t b)
-  site_taken = sym (p ∙ ap (λ m. survey (room a.labels) (room a.units) 1 (surveyed fresh.tally m (entries a.units)) site) ls ∙ ap (λ v. survey (room a.labels) (room a.units) 1 (surveyed fresh.tally [] v) site) us)
+module _ (site library : List Form) (a b d : Lists) (t : Tally) (ls : marks a.labels.now ≡ []) (us : entries a.units.now ≡ []) (p : done (survey_of t b) ≡ survey (room a.labels.now) (room a.units.now) 1 (survey_of fresh.tally a) site) (kept : KeptBoth a b) (small : Small t 65536000) where
+  site_taken : survey (room a.labels.now) (room a.units.now) 1 fresh site ≡ done (survey_of t b)
+  site_taken = sym (p ∙ ap (λ m. survey (room a.labels.now) (room a.units.now) 1 (surveyed fresh.tally m (entries a.units.now)) site) ls ∙ ap (λ v. survey (room a.labels.now) (room a.units.now) 1 (surveyed fresh.tally [] v) site) us)
 
-  same_rooms : (x : Surveyed) → x ≡ survey (room b.labels) (room b.units) 1 (survey_of (opened t) b) library → survey (room a.labels) (room a.units) 1 (survey_of (opened t) b) library ≡ x
-  same_rooms x q = sym (q ∙ ap (λ k. survey k (room b.units) 1 (survey_of (opened t) b) library) kept.labels.room ∙ ap (λ k. survey (room a.labels) k 1 (survey_of (opened t) b) library) kept.units.room)
+  same_rooms : (x : Surveyed) → x ≡ survey (room b.labels.now) (room b.units.now) 1 (survey_of (opened t) b) library → survey (room a.labels.now) (room a.units.now) 1 (survey_of (opened t) b) library ≡ x
+  same_rooms x q = sym (q ∙ ap (λ k. survey k (room b.units.now) 1 (survey_of (opened t) b) library) kept.labels.room ∙ ap (λ k. survey (room a.labels.now) k 1 (survey_of (opened t) b) library) kept.units.room)
 
   pub passes : (r : Result Tally LineCause) (s : Result Tally Fault) (P : LineCause → Fault → Type 0) (v : Tally) → v ≡ opened t
-      → surveyed_to r d ≡ survey (room b.labels) (room b.units) 1 (survey_of v b) library → Bounded v r
+      → surveyed_to r d ≡ survey (room b.labels.now) (room b.units.now) 1 (survey_of v b) library → Bounded v r
       → MatchResult r (λ x. s ≡ Ok x) (λ e. IsErrAnd s (P e)) → ((e : LineCause) (f : Fault) → P e f → f ≡ G.Assembly e.cause (Line Library e.line))
-      → Surveys site library (room a.labels) (room a.units) s (marks d.labels) (entries d.units) × Tallied s
+      → Surveys site library (room a.labels.now) (room a.units.now) s (marks d.labels.now) (entries d.units.now) × Tallied s
   passes (Ok x) s P v o q g m k =
       let h = g 65536000 (subst (λ w. Small w 65536000) (sym o) small) in
-      let e = same_rooms (done (survey_of x d)) (q ∙ ap (λ w. survey (room b.labels) (room b.units) 1 (survey_of w b) library) o) in
-      subst (λ z. Surveys site library (room a.labels) (room a.units) z (marks d.labels) (entries d.units) × Tallied z) (sym m)
-      (texts_taken site library (room a.labels) (room a.units) (survey_of t b) (survey_of x d) site_taken e, (omega arith, omega arith, omega arith))
+      let e = same_rooms (done (survey_of x d)) (q ∙ ap (λ w. survey (room b.labels.now) (room b.units.now) 1 (survey_of w b) library) o) in
+      subst (λ z. Surveys site library (room a.labels.now) (room a.units.now) z (marks d.labels.now) (entries d.units.now) × Tallied z) (sym m)
+      (texts_taken site library (room a.labels.now) (room a.units.now) (survey_of t b) (survey_of x d) site_taken e, (omega arith, omega arith, omega arith))
   passes (Err c) (Ok x) P v o q g m k = absurd m
   passes (Err c) (Err f) P v o q g m k =
-      let e = same_rooms (fault c.line c.cause) (q ∙ ap (λ w. survey (room b.labels) (room b.units) 1 (survey_of w b) library) o) in
+      let e = same_rooms (fault c.line c.cause) (q ∙ ap (λ w. survey (room b.labels.now) (room b.units.now) 1 (survey_of w b) library) o) in
       (λ n. rw (k c f m, first, site_taken, second, e) refl, tt)
 
 -- all cells of a program are written, in a memory that has room for them

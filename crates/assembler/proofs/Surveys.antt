@@ -13,12 +13,14 @@ pub kept_same : {T : Type 0} (l : SlotList T) → Kept l l
 kept_same l = record { room = refl; lender = refl }
 
 pub both_same : (l : Lists) → KeptBoth l l
-both_same l = record { labels = kept_same l.labels; units = kept_same l.units }
+both_same l = record { labels = kept_same l.labels.now; units = kept_same l.units.now; labels_at = refl; units_at = refl }
 
 pub both_then : (a b c : Lists) → KeptBoth a b → KeptBoth b c → KeptBoth a c
 both_then a b c p q = record {
   labels = record { room = q.labels.room ∙ p.labels.room; lender = q.labels.lender ∙ p.labels.lender };
   units = record { room = q.units.room ∙ p.units.room; lender = q.units.lender ∙ p.units.lender };
+  labels_at = q.labels_at ∙ p.labels_at;
+  units_at = q.units_at ∙ p.units_at;
 }
 
 -- a refusal

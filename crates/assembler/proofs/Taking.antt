@@ -32,8 +32,8 @@ same_section_eq Heap Data b e = e
 same_section_eq Heap Heap b e = e
 
 -- cells in the section that they belong to
-pub put_taken : (a : Lists) (t : Tally) (f : Form) (w : Option (List ℕ)) (want b : Bool) (n : ℕ) → taken (room a.labels) (room a.units) (survey_of t a) f ≡ demand want WrongSection (putting (room a.labels) (room a.units) (survey_of t a) w (length (cells f))) → b ≡ want → n ≡ length (cells f)
-    → demand b WrongSection (putting (room a.labels) (room a.units) (survey_of t a) w n) ≡ taken (room a.labels) (room a.units) (survey_of t a) f
+pub put_taken : (a : Lists) (t : Tally) (f : Form) (w : Option (List ℕ)) (want b : Bool) (n : ℕ) → taken (room a.labels.now) (room a.units.now) (survey_of t a) f ≡ demand want WrongSection (putting (room a.labels.now) (room a.units.now) (survey_of t a) w (length (cells f))) → b ≡ want → n ≡ length (cells f)
+    → demand b WrongSection (putting (room a.labels.now) (room a.units.now) (survey_of t a) w n) ≡ taken (room a.labels.now) (room a.units.now) (survey_of t a) f
 put_taken a t f w want b n h e g =
-    let put = putting (room a.labels) (room a.units) (survey_of t a) w in
+    let put = putting (room a.labels.now) (room a.units.now) (survey_of t a) w in
     ap (λ x. demand x WrongSection (put n)) e ∙ ap (λ m. demand want WrongSection (put m)) g ∙ sym h

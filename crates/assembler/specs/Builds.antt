@@ -4,11 +4,12 @@ use Rattle.program.specs.Faults as F
 use Rattle.program.specs.declared.counts.Counts.{Counts}
 use Rattle.program.specs.declared.assembled.Assembled.{Assembled}
 use Rattle.program.specs.declared.fault.Fault.{Fault}
+use Rattle.program.specs.declared.label.Label.{Label}
 use Rattle.program.specs.declared.section.Section.{Section}
+use Rattle.program.specs.declared.unit.Unit.{Unit as UnitRecord}
 use Rattle.slots.specs.Items.{items, room}
 use Rattle.slots.specs.declared.list.SlotList.{SlotList}
 use Rattle.syntax.specs.Forms.{Form}
-use Rattle.assembler.specs.declared.lists.Lists.{Lists}
 use Rattle.assembler.specs.declared.tally.Tally.{Tally}
 use Rattle.assembler.specs.Assembly.{Assembly, program, unread, refusal, first, fitted, linked, made}
 use Rattle.assembler.specs.Cells.{both}
@@ -51,10 +52,10 @@ Made (Ok a) c = a.counts ≡ c
 Made (Err f) c = ⊥
 
 -- lists over a memory of n cells and over slots: no cell is written, and labels and units have their bounds
-pub record Fresh (n : ℕ) (written : SlotList ℤ) (lists : Lists) : Type 0 where
+pub record Fresh (n : ℕ) (written : SlotList ℤ) (labels : SlotList Label) (units : SlotList UnitRecord) : Type 0 where
   pub least : 16 ≤ n
   pub most : n ≤ 65536
   pub whole : room written ≡ n
   pub none : items written ≡ []
-  pub labelled : room lists.labels ≤ 512
-  pub united : room lists.units ≤ 64
+  pub labelled : room labels ≤ 512
+  pub united : room units ≤ 64

@@ -23,10 +23,12 @@ pub record Kept {T : Type 0} (before after : SlotList T) : Type 0 where
   pub room : room after ≡ room before
   pub lender : after.slots.ghost_name ≡ before.slots.ghost_name
 
--- the same slots for labels and for units
+-- the same lists of labels and of units, over the same slots
 pub record KeptBoth (before after : Lists) : Type 0 where
-  pub labels : Kept before.labels after.labels
-  pub units : Kept before.units after.units
+  pub labels : Kept before.labels.now after.labels.now
+  pub units : Kept before.units.now after.units.now
+  pub labels_at : after.labels.ghost_name ≡ before.labels.ghost_name
+  pub units_at : after.units.ghost_name ≡ before.units.ghost_name
 
 -- the same slots, each with one value, which is empty
 pub record Cleared {T : Type 0} (Empty : T → Type 0) (before after : SlotList T) : Type 0 where
@@ -37,7 +39,7 @@ pub record Cleared {T : Type 0} (Empty : T → Type 0) (before after : SlotList 
 
 -- how far the lines have come, with the labels and the units so far
 abbrev pub survey_of : Tally → Lists → Survey
-survey_of t l = surveyed t (marks l.labels) (entries l.units)
+survey_of t l = surveyed t (marks l.labels.now) (entries l.units.now)
 
 -- what a line came to
 abbrev pub stepped : Result Tally AssemblyCause → Lists → Step

@@ -5,7 +5,6 @@ ghost use Rattle.assembler.specs.Progress.{Cleared};
 ghost use Rattle.program.specs.Records.{NoLabel, NoUnit};
 
 use crate::building::build;
-use crate::lists::Lists;
 use crate::texts::Texts;
 use program::{Assembled, Fault, Label, Unit};
 use slots::SlotList;
@@ -34,16 +33,15 @@ pub(crate) fn assemble_fit(
 {
     let cells = memory.len();
     let mut written = SlotList::new(memory, cells);
-    let mut lists = Lists {
-        labels: SlotList::new(labels, 512),
-        units: SlotList::new(units, 64),
-    };
-    let built = build(cells, texts, &mut written, &mut lists);
-    let Lists {
-        labels: mut label_list,
-        units: mut unit_list,
-    } = lists;
-    match built {
+    let mut label_list = SlotList::new(labels, 512);
+    let mut unit_list = SlotList::new(units, 64);
+    match build(
+        cells,
+        texts,
+        &mut written,
+        &mut label_list,
+        &mut unit_list,
+    ) {
         Ok(program) => {
             written.fill_rest(0);
             label_list.fill_rest(Label::empty());

@@ -10,6 +10,7 @@ mod lists;
 mod named;
 mod source;
 mod survey;
+mod surveying;
 mod tally;
 mod texts;
 mod writing;

@@ -113,7 +113,7 @@ fn add_unit(
     )
 }
 
-impl Lists<'_, '_> {
+impl Lists<'_, '_, '_> {
     // n cells, at a label or not.
     fn put_cells(
         &mut self,
@@ -124,12 +124,12 @@ impl Lists<'_, '_> {
         requires small { Small tally 1000000000 }
         requires short_label { ShortLabel (label_of label) }
         requires few { n ≤ 1000 }
-        ensures { Stepped self.old self.new tally result (putting (room self.old.labels) (room self.old.units) (survey_of tally self.old) (label_of label.entry) n) }
+        ensures { Stepped self.old self.new tally result (putting (room self.old.labels.now) (room self.old.units.now) (survey_of tally self.old) (label_of label.entry) n) }
     {
         let Some(word) = label else {
             return Ok(grow(tally, n));
         };
-        add_label(tally, &mut self.labels, word)?;
+        add_label(tally, self.labels, word)?;
         Ok(grow(tally, n))
     }
 
@@ -144,7 +144,7 @@ impl Lists<'_, '_> {
         requires small { Small tally 1000000000 }
         requires short_label { ShortLabel (label_of label) }
         requires few { n ≤ 1000 }
-        ensures { Stepped self.old self.new tally result (demand allowed WrongSection (putting (room self.old.labels) (room self.old.units) (survey_of tally self.old) (label_of label.entry) n)) }
+        ensures { Stepped self.old self.new tally result (demand allowed WrongSection (putting (room self.old.labels.now) (room self.old.units.now) (survey_of tally self.old) (label_of label.entry) n)) }
     {
         if !allowed {
             return Err(AssemblyCause::WrongSection);
@@ -161,12 +161,12 @@ impl Lists<'_, '_> {
         results: &[u8],
     ) -> Result<Tally, AssemblyCause>
         requires { length word.now ≤ 31 }
-        ensures { Stepped self.old self.new tally result (demand (not tally.begun) LateUnit (declaring (room self.old.labels) (room self.old.units) (survey_of tally self.old) (smalls word.now) (octet (numeral arguments.now)) (octet (numeral results.now)))) }
+        ensures { Stepped self.old self.new tally result (demand (not tally.begun) LateUnit (declaring (room self.old.labels.now) (room self.old.units.now) (survey_of tally self.old) (smalls word.now) (octet (numeral arguments.now)) (octet (numeral results.now)))) }
     {
         if tally.begun {
             return Err(AssemblyCause::LateUnit);
         }
-        add_unit(&mut self.units, word, octet_of(arguments), octet_of(results))?;
+        add_unit(self.units, word, octet_of(arguments), octet_of(results))?;
         Ok(tally)
     }
 
@@ -178,7 +178,7 @@ impl Lists<'_, '_> {
     ) -> Result<Tally, AssemblyCause>
         requires small { Small tally 1000000000 }
         requires limited { Limited (stated statement) }
-        ensures { Stepped self.old self.new tally result (taken (room self.old.labels) (room self.old.units) (survey_of tally self.old) (stated statement.entry)) }
+        ensures { Stepped self.old self.new tally result (taken (room self.old.labels.now) (room self.old.units.now) (survey_of tally self.old) (stated statement.entry)) }
     {
         let n = cells_of(statement);
         let code = tally.section == Section::Code;
@@ -197,7 +197,7 @@ impl Lists<'_, '_> {
     // One line.
     fn survey_line(&mut self, line: &[u8], tally: Tally) -> Result<Tally, AssemblyCause>
         requires { Small tally 1000000000 }
-        ensures { Stepped self.old self.new tally result (step (room self.old.labels) (room self.old.units) (survey_of tally self.old) (form line.now)) }
+        ensures { Stepped self.old self.new tally result (step (room self.old.labels.now) (room self.old.units.now) (survey_of tally self.old) (form line.now)) }
     {
         let statement = statement_of(line)?;
         if !in_range(statement) {
@@ -210,7 +210,7 @@ impl Lists<'_, '_> {
     pub(crate) fn survey_text(&mut self, text: &[u8], start: Tally) -> Result<Tally, LineCause>
         requires short { length text.now ≤ 65536 }
         requires small { Small start 100000000 }
-        ensures survey { surveyed_to result self.new ≡ survey (room self.old.labels) (room self.old.units) 1 (survey_of start self.old) (forms text.now) }
+        ensures survey { surveyed_to result self.new ≡ survey (room self.old.labels.now) (room self.old.units.now) 1 (survey_of start self.old) (forms text.now) }
         ensures kept { KeptBoth self.old self.new }
         ensures grows { Bounded start result }
     {

@@ -20,15 +20,16 @@ returns-in_err-check_names c =
     let site = forms c.args.texts.site.now in
     let library = forms c.args.texts.library.now in
     let t = c.args.tally in
-    let l = c.args.lists.now.labels in
-    let u = c.args.lists.now.units in
+    let l = c.args.labels.now in
+    let u = c.args.units.now in
     let f = c.in_err-check_names.field-0.0 in
     let p = err_from_is_err_and c.from_residual.result c.from_residual.ensures.1 in
     record {
       builds = unlinked n site library t (marks l) (marks c.lay_out.new.labels) (entries u) (entries u) _ c.from_residual.result p.0 f c.if-code-data.false c.lay_out.ensures.labels p.1 p.2
           (subst (λ (xs : List Label). Refuses f (linked n site library (surveyed t (marks l) (entries u)) (map mark_of xs))) c.items.ensures (c.in_err-check_names.ensures n (surveyed t (marks l) (entries u))));
       written = kept_same c.args.written.now;
-      kept = record { labels = c.lay_out.ensures.kept; units = kept_same u };
+      labels = c.lay_out.ensures.kept;
+      units = kept_same u;
     }
 
 pub returns : goal.returns
@@ -37,8 +38,8 @@ returns c =
     let site = forms c.args.texts.site.now in
     let library = forms c.args.texts.library.now in
     let t = c.args.tally in
-    let l = c.args.lists.now.labels in
-    let u = c.args.lists.now.units in
+    let l = c.args.labels.now in
+    let u = c.args.units.now in
     let m = marks l in
     let e = entries u in
     let ls = marks c.lay_out.new.labels in
@@ -59,5 +60,6 @@ returns c =
           c.requires.fresh.none c.requires.fresh.whole
           (c.open_units.ensures.units ∙ ap (λ xs. map (opening (f xs)) e) c.items-3.ensures);
       written = c.write_all.ensures.kept;
-      kept = record { labels = c.lay_out.ensures.kept; units = c.open_units.ensures.kept };
+      labels = c.lay_out.ensures.kept;
+      units = c.open_units.ensures.kept;
     }

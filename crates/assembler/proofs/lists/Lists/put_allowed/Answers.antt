@@ -11,7 +11,7 @@ returns c =
     let a = c.args.self.now in
     record {
       step = c.put_cells.ensures.step
-          ∙ sym (ap (λ b. demand b WrongSection (putting (room a.labels) (room a.units) (survey_of c.args.tally a) (label_of c.args.label) c.args.n)) c.if-not-allowed.false);
+          ∙ sym (ap (λ b. demand b WrongSection (putting (room a.labels.now) (room a.units.now) (survey_of c.args.tally a) (label_of c.args.label) c.args.n)) c.if-not-allowed.false);
       kept = c.put_cells.ensures.kept;
       grows = c.put_cells.ensures.grows;
     }

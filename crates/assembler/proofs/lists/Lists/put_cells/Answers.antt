@@ -1,4 +1,4 @@
-use Rattle.std.proofs.Common.{◌≤◌, List, length, sym, ap, ◌∙◌}
+use Rattle.std.proofs.Common.{◌≤◌, List, length, sym, refl, ap, ◌∙◌}
 use Rattle.std.proofs.lemmas.List.{length-map}
 use Rattle.std.proofs.lemmas.Result.{err_from_is_err_and}
 use Rattle.program.specs.Names.{small, smalls}
@@ -21,18 +21,18 @@ returns-in_err-add_label c =
     let a = c.args.self.now in
     let p = err_from_is_err_and c.from_residual.result c.from_residual.ensures.1 in
     refused a _ c.args.tally c.from_residual.result _ p.0 _ p.1 p.2
-    (sym (ap (λ l. putting (room a.labels) (room a.units) (survey_of c.args.tally a) (label_of l) c.args.n) c.in-Some.is
-    ∙ c.in_err-add_label.ensures.added (λ (ls : List Mark). go (surveyed (grown c.args.tally c.args.n) ls (entries a.units)))))
-    (record { labels = c.add_label.ensures.kept; units = kept_same a.units })
+    (sym (ap (λ l. putting (room a.labels.now) (room a.units.now) (survey_of c.args.tally a) (label_of l) c.args.n) c.in-Some.is
+    ∙ c.in_err-add_label.ensures.added (λ (ls : List Mark). go (surveyed (grown c.args.tally c.args.n) ls (entries a.units.now)))))
+    (record { labels = c.add_label.ensures.kept; units = kept_same a.units.now; labels_at = refl; units_at = refl })
 
 pub returns : goal.returns
 returns c =
     let a = c.args.self.now in
     record {
       step =
-          sym (ap (λ l. putting (room a.labels) (room a.units) (survey_of c.args.tally a) (label_of l) c.args.n) c.in-Some.is
-          ∙ c.in_ok-add_label.ensures.added (λ (ls : List Mark). go (surveyed (grown c.args.tally c.args.n) ls (entries a.units)))
-          ∙ ap (λ t. go (surveyed t (marks c.add_label.new.labels) (entries a.units))) (sym c.grow-2.ensures.is));
-      kept = record { labels = c.add_label.ensures.kept; units = kept_same a.units };
+          sym (ap (λ l. putting (room a.labels.now) (room a.units.now) (survey_of c.args.tally a) (label_of l) c.args.n) c.in-Some.is
+          ∙ c.in_ok-add_label.ensures.added (λ (ls : List Mark). go (surveyed (grown c.args.tally c.args.n) ls (entries a.units.now)))
+          ∙ ap (λ t. go (surveyed t (marks c.add_label.new.labels) (entries a.units.now))) (sym c.grow-2.ensures.is));
+      kept = record { labels = c.add_label.ensures.kept; units = kept_same a.units.now; labels_at = refl; units_at = refl };
       grows = c.grow-2.ensures.grows;
     }

@@ -22,7 +22,7 @@ loop-i-init c =
     let n = ap length f in (
       (tt, tt, inl (omega arith)),
       tt,
-      ap (λ j. survey (room a.labels) (room a.units) (j + 1) s (map form (lines_left (enumerate_source it)))) k ∙ ap (λ ls. survey (room a.labels) (room a.units) 1 s (map form ls)) (f ∙ c.new.ensures.lines),
+      ap (λ j. survey (room a.labels.now) (room a.units.now) (j + 1) s (map form (lines_left (enumerate_source it)))) k ∙ ap (λ ls. survey (room a.labels.now) (room a.units.now) 1 s (map form ls)) (f ∙ c.new.ensures.lines),
       both_same a,
       λ m small. (omega arith, omega arith, omega arith),
       omega arith,
@@ -59,7 +59,7 @@ returns-in_err-tally c =
     record {
       survey = ap (λ r. surveyed_to r b) (p.1 ∙ ap Err (p.2 ∙ k))
           ∙ ap (λ j. fault (j + 1) m.0) h.1
-          ∙ survey_stop (room a.labels) (room a.units) (n + 1) (survey_of c.loop-i.tally a) c.in-Some.line.now (lines_left (enumerate_source c.loop-i.i-iterator)) (lines_left (enumerate_source c.next.new.self)) h.0 m.0 (sym (ap (λ r. stepped r b) m.1) ∙ c.survey_line.ensures.step)
+          ∙ survey_stop (room a.labels.now) (room a.units.now) (n + 1) (survey_of c.loop-i.tally a) c.in-Some.line.now (lines_left (enumerate_source c.loop-i.i-iterator)) (lines_left (enumerate_source c.next.new.self)) h.0 m.0 (sym (ap (λ r. stepped r b) m.1) ∙ c.survey_line.ensures.step)
           ∙ c.loop-i.invariant.2;
       kept = both_then c.args.self.now a b c.loop-i.invariant.3 c.survey_line.ensures.kept;
       grows = subst (Bounded c.args.start) (sym p.1) tt;
@@ -80,10 +80,10 @@ loop-i-preserved c =
     let g = subst (Grows c.loop-i.tally) m c.survey_line.ensures.grows in (
       (tt, tt, inl (omega arith)),
       tt,
-      ap (λ k. survey (room b.labels) (room b.units) (k + 1) s (map form left)) h.2
-          ∙ ap (λ l. survey l (room b.units) (n + 1 + 1) s (map form left)) e.labels.room
-          ∙ ap (λ u. survey (room a.labels) u (n + 1 + 1) s (map form left)) e.units.room
-          ∙ survey_more (room a.labels) (room a.units) (n + 1) (survey_of c.loop-i.tally a) c.in-Some.line.now (lines_left (enumerate_source c.loop-i.i-iterator)) left h.0 s (sym (ap (λ r. stepped r b) m) ∙ c.survey_line.ensures.step)
+      ap (λ k. survey (room b.labels.now) (room b.units.now) (k + 1) s (map form left)) h.2
+          ∙ ap (λ l. survey l (room b.units.now) (n + 1 + 1) s (map form left)) e.labels.room
+          ∙ ap (λ u. survey (room a.labels.now) u (n + 1 + 1) s (map form left)) e.units.room
+          ∙ survey_more (room a.labels.now) (room a.units.now) (n + 1) (survey_of c.loop-i.tally a) c.in-Some.line.now (lines_left (enumerate_source c.loop-i.i-iterator)) left h.0 s (sym (ap (λ r. stepped r b) m) ∙ c.survey_line.ensures.step)
           ∙ i.2,
       both_then c.args.self.now a b i.3 e,
       λ k small.
@@ -99,7 +99,7 @@ returns c =
     let f = i.5 in
     let h = rw c.in-None.is at c.next.ensures.steps in
     record {
-      survey = sym (ap (λ ls. survey (room a.labels) (room a.units) (enumerate_count c.loop-i.i-iterator + 1) (survey_of c.loop-i.tally a) (map form ls)) h.0.0) ∙ i.2;
+      survey = sym (ap (λ ls. survey (room a.labels.now) (room a.units.now) (enumerate_count c.loop-i.i-iterator + 1) (survey_of c.loop-i.tally a) (map form ls)) h.0.0) ∙ i.2;
       kept = i.3;
       grows = λ n small. let s = i.4 n small in (omega arith, omega arith, omega arith);
     }

@@ -20,7 +20,7 @@ pub returns-in-Unit : goal.returns-in-Unit
 returns-in-Unit c =
     let a = c.args.self.now in
     record {
-      step = c.declare.ensures.step ∙ sym (ap (λ s. taken (room a.labels) (room a.units) (survey_of c.args.tally a) (stated s)) c.in-Unit.is);
+      step = c.declare.ensures.step ∙ sym (ap (λ s. taken (room a.labels.now) (room a.units.now) (survey_of c.args.tally a) (stated s)) c.in-Unit.is);
       kept = c.declare.ensures.kept;
       grows = c.declare.ensures.grows;
     }
@@ -32,7 +32,7 @@ returns-in-Instruction c =
     let e = is_code_eq t.section c.eq-code.result c.eq-code.ensures in
     record {
       step = c.put_allowed.ensures.step
-          ∙ put_taken a t (stated c.args.statement) (label_of c.in-Instruction.label) (is_code t.section) c.eq-code.result c.cells_of-n.result (ap (λ s. taken (room a.labels) (room a.units) (survey_of t a) (stated s)) c.in-Instruction.is ∙ sym (ap (λ s. demand (is_code t.section) WrongSection (putting (room a.labels) (room a.units) (survey_of t a) (label_of c.in-Instruction.label) (length (cells (stated s))))) c.in-Instruction.is)) e c.cells_of-n.ensures;
+          ∙ put_taken a t (stated c.args.statement) (label_of c.in-Instruction.label) (is_code t.section) c.eq-code.result c.cells_of-n.result (ap (λ s. taken (room a.labels.now) (room a.units.now) (survey_of t a) (stated s)) c.in-Instruction.is ∙ sym (ap (λ s. demand (is_code t.section) WrongSection (putting (room a.labels.now) (room a.units.now) (survey_of t a) (label_of c.in-Instruction.label) (length (cells (stated s))))) c.in-Instruction.is)) e c.cells_of-n.ensures;
       kept = c.put_allowed.ensures.kept;
       grows = c.put_allowed.ensures.grows;
     }
@@ -44,7 +44,7 @@ returns-in-Words c =
     let e = is_code_eq t.section c.eq-code.result c.eq-code.ensures in
     record {
       step = c.put_allowed-in-Words.ensures.step
-          ∙ put_taken a t (stated c.args.statement) (label_of c.in-Words.label) (not (is_code t.section)) (not c.eq-code.result) c.cells_of-n.result (ap (λ s. taken (room a.labels) (room a.units) (survey_of t a) (stated s)) c.in-Words.is ∙ sym (ap (λ s. demand (not (is_code t.section)) WrongSection (putting (room a.labels) (room a.units) (survey_of t a) (label_of c.in-Words.label) (length (cells (stated s))))) c.in-Words.is)) (ap not e) c.cells_of-n.ensures;
+          ∙ put_taken a t (stated c.args.statement) (label_of c.in-Words.label) (not (is_code t.section)) (not c.eq-code.result) c.cells_of-n.result (ap (λ s. taken (room a.labels.now) (room a.units.now) (survey_of t a) (stated s)) c.in-Words.is ∙ sym (ap (λ s. demand (not (is_code t.section)) WrongSection (putting (room a.labels.now) (room a.units.now) (survey_of t a) (label_of c.in-Words.label) (length (cells (stated s))))) c.in-Words.is)) (ap not e) c.cells_of-n.ensures;
       kept = c.put_allowed-in-Words.ensures.kept;
       grows = c.put_allowed-in-Words.ensures.grows;
     }
@@ -56,7 +56,7 @@ returns-in-Copies c =
     let e = is_code_eq t.section c.eq-code.result c.eq-code.ensures in
     record {
       step = c.put_allowed-in-Copies.ensures.step
-          ∙ put_taken a t (stated c.args.statement) (label_of c.in-Copies.label) (not (is_code t.section)) (not c.eq-code.result) c.cells_of-n.result (ap (λ s. taken (room a.labels) (room a.units) (survey_of t a) (stated s)) c.in-Copies.is ∙ sym (ap (λ s. demand (not (is_code t.section)) WrongSection (putting (room a.labels) (room a.units) (survey_of t a) (label_of c.in-Copies.label) (length (cells (stated s))))) c.in-Copies.is)) (ap not e) c.cells_of-n.ensures;
+          ∙ put_taken a t (stated c.args.statement) (label_of c.in-Copies.label) (not (is_code t.section)) (not c.eq-code.result) c.cells_of-n.result (ap (λ s. taken (room a.labels.now) (room a.units.now) (survey_of t a) (stated s)) c.in-Copies.is ∙ sym (ap (λ s. demand (not (is_code t.section)) WrongSection (putting (room a.labels.now) (room a.units.now) (survey_of t a) (label_of c.in-Copies.label) (length (cells (stated s))))) c.in-Copies.is)) (ap not e) c.cells_of-n.ensures;
       kept = c.put_allowed-in-Copies.ensures.kept;
       grows = c.put_allowed-in-Copies.ensures.grows;
     }

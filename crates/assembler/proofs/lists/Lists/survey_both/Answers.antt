@@ -11,11 +11,11 @@ use Rattle.assembler.specs.Survey.{fresh}
 use Rattle.assembler.proofs.Exits.{mapped_err, mapped_ok}
 use Rattle.assembler.proofs.Passes.{passes, refused_first}
 use Rattle.assembler.proofs.Surveys.{both_then}
-use Rattle.assembler.proofs.building.survey_texts.Goals as goal
+use Rattle.assembler.proofs.lists.Lists.survey_both.Goals as goal
 
 pub returns-in_err-tally : goal.returns-in_err-tally
 returns-in_err-tally c =
-    let a = c.args.lists.now in
+    let a = c.args.self.now in
     let b = c.survey_text.new.self in
     let site = forms c.args.texts.site.now in
     let library = forms c.args.texts.library.now in
@@ -25,7 +25,7 @@ returns-in_err-tally c =
     let k : c.in_err-tally.field-0.0 ≡ F.Assembly m.0.cause (Line Site m.0.line) = search rules in
     let f = refused_first site library a b c.survey_text.result m.0 p.0 c.requires.no_labels c.requires.no_units c.survey_text.ensures.survey m.1 (p.2 ∙ k) in
     record {
-      surveys = subst (λ r. Surveys site library (room a.labels) (room a.units) r (marks b.labels) (entries b.units)) (sym p.1) f;
+      surveys = subst (λ r. Surveys site library (room a.labels.now) (room a.units.now) r (marks b.labels.now) (entries b.units.now)) (sym p.1) f;
       small = subst Tallied (sym p.1) tt;
       kept = c.survey_text.ensures.kept;
     }
@@ -39,7 +39,7 @@ survey_text-requires-2 c =
 
 pub returns : goal.returns
 returns c =
-    let a = c.args.lists.now in
+    let a = c.args.self.now in
     let b = c.survey_text.new.self in
     let d = c.survey_text-2.new.self in
     let m = mapped_ok c.survey_text.result c.map_err.result _ c.in_ok-tally.tally c.map_err.ensures.cases c.in_ok-tally.was in
