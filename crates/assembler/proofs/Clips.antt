@@ -5,6 +5,13 @@ use Rattle.slots.specs.Items.{items, room, slots_of}
 use Rattle.slots.specs.declared.list.SlotList.{SlotList}
 use Rattle.assembler.specs.Progress.{Kept, Puts, clipped}
 
+-- the same slots
+pub kept_same : {T : Type 0} (l : SlotList T) → Kept l l
+kept_same l = record { room = refl; lender = refl }
+
+pub kept_then : {T : Type 0} (a b c : SlotList T) → Kept a b → Kept b c → Kept a c
+kept_then a b c p q = record { room = q.room ∙ p.room; lender = q.lender ∙ p.lender }
+
 -- what is clipped once is clipped for good
 clip_clip : (n : ℕ) (xs ys : List ℤ) → take n (take n xs ++ ys) ≡ take n (xs ++ ys)
 clip_clip zero xs ys = refl
@@ -20,8 +27,8 @@ within_room l =
 pub clipped_none : (l : SlotList ℤ) → clipped l [] ≡ items l
 clipped_none l = ap (take (room l)) (append-nil (items l)) ∙ take_all (room l) (items l) (within_room l)
 
-pub puts_none : (l : SlotList ℤ) → Puts l l []
-puts_none l = record { cells = sym (clipped_none l); kept = record { room = refl; lender = refl } }
+puts_none : (l : SlotList ℤ) → Puts l l []
+puts_none l = record { cells = sym (clipped_none l); kept = kept_same l }
 
 -- what is still to be put
 pub puts_left : (a b : SlotList ℤ) (xs ys : List ℤ) → Puts a b xs → clipped b ys ≡ clipped a (xs ++ ys)
@@ -34,7 +41,7 @@ puts_left a b xs ys p =
 pub puts_then : (a b c : SlotList ℤ) (xs ys : List ℤ) → Puts a b xs → Puts b c ys → Puts a c (xs ++ ys)
 puts_then a b c xs ys p q = record {
   cells = q.cells ∙ puts_left a b xs ys p;
-  kept = record { room = q.kept.room ∙ p.kept.room; lender = q.kept.lender ∙ p.kept.lender };
+  kept = kept_then a b c p.kept q.kept;
 }
 
 -- from what was left at a loop's end
@@ -43,6 +50,10 @@ puts_end a b xs ys e f k = record { cells = sym (clipped_none b) ∙ ap (clipped
 
 pub puts_as : (a b : SlotList ℤ) (xs ys : List ℤ) → xs ≡ ys → Puts a b xs → Puts a b ys
 puts_as a b xs ys e p = record { cells = p.cells ∙ ap (clipped a) e; kept = p.kept }
+
+-- nothing is put
+pub puts_nothing : (l : SlotList ℤ) (xs : List ℤ) → xs ≡ [] → Puts l l xs
+puts_nothing l xs e = puts_as l l [] xs (sym e) (puts_none l)
 
 -- one more cell, or none where there is no room
 pub put_one : (r : Result (Unit {0}) ℤ) (a b : SlotList ℤ) (v w : ℤ) → v ≡ w → b.slots.ghost_name ≡ a.slots.ghost_name → MatchResult r (λ _. (items b ≡ items a ++ v ∷ []) × (length (items a) < room a) × (room b ≡ room a)) (λ _. (room a ≤ length (items a)) × (b ≡ a)) → Puts a b (w ∷ [])
@@ -61,10 +72,6 @@ put_one (Err e) a b v w f l p =
 -- the next of the cells that are left is put
 pub left_more : (a b c : SlotList ℤ) (v w : ℤ) (vs ws xs : List ℤ) → clipped b vs ≡ clipped a xs → vs ≡ w ∷ ws → v ≡ w → Puts b c (v ∷ []) → clipped c ws ≡ clipped a xs
 left_more a b c v w vs ws xs e f g p = puts_left b c (v ∷ []) ws p ∙ ap (λ x. clipped b (x ∷ ws)) g ∙ ap (clipped b) (sym f) ∙ e
-
--- the same slots still
-pub kept_then : (a b c : SlotList ℤ) → Kept a b → Kept b c → Kept a c
-kept_then a b c p q = record { room = q.room ∙ p.room; lender = q.lender ∙ p.lender }
 
 pub replicate_next : (n i : ℕ) (v : ℤ) → i < n → replicate (n - i) v ≡ v ∷ replicate (n - (i + 1)) v
 replicate_next n i v h =

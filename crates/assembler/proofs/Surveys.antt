@@ -2,23 +2,20 @@
 use Rattle.std.proofs.Common.{◌≡◌, ℕ, suc, ◌+◌, List, [], ◌∷◌, map, Ok, Err, IsErrAnd, Result, MatchResult, sym, refl, ap, ◌∙◌, add-one}
 use Rattle.program.specs.declared.fault.AssemblyCause.{AssemblyCause}
 use Rattle.syntax.specs.Forms.{Form, form}
-use Rattle.slots.specs.declared.list.SlotList.{SlotList}
 use Rattle.assembler.specs.declared.lists.Lists.{Lists}
 use Rattle.assembler.specs.declared.tally.Tally.{Tally}
-use Rattle.assembler.specs.Progress.{Kept, KeptBoth, Stepped, stepped}
+use Rattle.assembler.specs.Progress.{KeptBoth, Stepped, stepped}
+use Rattle.assembler.proofs.Clips.{kept_same, kept_then}
 use Rattle.assembler.specs.Survey.{Step, Survey, step, survey, go, stop, fault}
 
--- the same slots
-pub kept_same : {T : Type 0} (l : SlotList T) → Kept l l
-kept_same l = record { room = refl; lender = refl }
-
+-- the same lists
 pub both_same : (l : Lists) → KeptBoth l l
 both_same l = record { labels = kept_same l.labels.now; units = kept_same l.units.now; labels_at = refl; units_at = refl }
 
 pub both_then : (a b c : Lists) → KeptBoth a b → KeptBoth b c → KeptBoth a c
 both_then a b c p q = record {
-  labels = record { room = q.labels.room ∙ p.labels.room; lender = q.labels.lender ∙ p.labels.lender };
-  units = record { room = q.units.room ∙ p.units.room; lender = q.units.lender ∙ p.units.lender };
+  labels = kept_then a.labels.now b.labels.now c.labels.now p.labels q.labels;
+  units = kept_then a.units.now b.units.now c.units.now p.units q.units;
   labels_at = q.labels_at ∙ p.labels_at;
   units_at = q.units_at ∙ p.units_at;
 }

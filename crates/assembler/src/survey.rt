@@ -52,10 +52,11 @@ fn enter(tally: Tally, section: Section) -> Tally
     ensures is { result ≡ entered tally section }
     ensures grows { (m : ℕ) → Small tally m → Small result (m + 1000) }
 {
-    let mut tally = tally;
-    tally.section = section;
-    tally.begun = true;
-    tally
+    Tally {
+        section,
+        begun: true,
+        ..tally
+    }
 }
 
 // A number of a .UNIT line, which is below 256.
@@ -66,15 +67,15 @@ fn octet_of(number: &[u8]) -> u8
 }
 
 // A label at the end of the section at hand.
+// Stays: `add_unit` below is no twin to make generic, for what the two share stands in `add`, and the rest is the
+// record that each makes of the name.
 fn add_label(tally: Tally, labels: &mut SlotList<Label>, word: &[u8]) -> Result<(), AssemblyCause>
     requires small { Small tally 1000000000 }
     requires short { length word.now ≤ 31 }
     ensures added { MatchResult result (λ _. (on : List Mark → Step) → adding (room labels.old) (map (λ l. l.name) (marks labels.old)) (marks labels.old) (smalls word.now) (mark (smalls word.now) tally.section (extent tally tally.section)) on ≡ on (marks labels.new)) (λ e. (on : List Mark → Step) → adding (room labels.old) (map (λ l. l.name) (marks labels.old)) (marks labels.old) (smalls word.now) (mark (smalls word.now) tally.section (extent tally tally.section)) on ≡ stop e) }
     ensures kept { Kept labels.old labels.new }
 {
-    let Some(name) = Name::new(word) else {
-        return Err(AssemblyCause::NoForm);
-    };
+    let name = Name::new(word).ok_or(AssemblyCause::NoForm)?;
     let address = extent_of(tally) as u32;
     add(
         labels,
@@ -98,9 +99,7 @@ fn add_unit(
     ensures added { MatchResult result (λ _. (on : List Entry → Step) → adding (room units.old) (map (λ u. u.name) (entries units.old)) (entries units.old) (smalls word.now) (entry (smalls word.now) 0 arguments results) on ≡ on (entries units.new)) (λ e. (on : List Entry → Step) → adding (room units.old) (map (λ u. u.name) (entries units.old)) (entries units.old) (smalls word.now) (entry (smalls word.now) 0 arguments results) on ≡ stop e) }
     ensures kept { Kept units.old units.new }
 {
-    let Some(name) = Name::new(word) else {
-        return Err(AssemblyCause::NoForm);
-    };
+    let name = Name::new(word).ok_or(AssemblyCause::NoForm)?;
     add(
         units,
         word,

@@ -9,9 +9,8 @@ use Rattle.assembler.specs.Cells.{all, cell, opening}
 use Rattle.assembler.specs.Marks.{mark_of, entry_of}
 use Rattle.assembler.specs.Progress.{entries, marks}
 use Rattle.assembler.specs.Survey.{surveyed}
-use Rattle.assembler.proofs.Clips.{puts_as}
+use Rattle.assembler.proofs.Clips.{kept_same, puts_as}
 use Rattle.assembler.proofs.Passes.{built, counts_same, unlinked}
-use Rattle.assembler.proofs.Surveys.{kept_same}
 use Rattle.assembler.proofs.building.link.Goals as goal
 
 pub returns-in_err-check_names : goal.returns-in_err-check_names

@@ -2,10 +2,8 @@ use Rattle.std.proofs.Common.{map, sym, ap}
 use Rattle.syntax.specs.Stated.{argued}
 use Rattle.assembler.specs.Cells.{cell}
 use Rattle.assembler.specs.Marks.{mark_of}
-use Rattle.assembler.proofs.Clips.{puts_as, puts_none}
+use Rattle.assembler.proofs.Clips.{puts_nothing}
 use Rattle.assembler.proofs.writing.put_argument.Goals as goal
 
 pub returns-in-Absent : goal.returns-in-Absent
-returns-in-Absent c =
-    let l = c.args.written.now in
-    puts_as l l _ _ (sym (ap (λ a. map (cell (map mark_of c.args.labels.now)) (argued a)) c.in-Absent.is)) (puts_none l)
+returns-in-Absent c = puts_nothing c.args.written.now _ (ap (λ a. map (cell (map mark_of c.args.labels.now)) (argued a)) c.in-Absent.is)

@@ -8,7 +8,7 @@ use Rattle.syntax.specs.Forms.{value}
 use Rattle.syntax.specs.Stated.{argued, stated}
 use Rattle.assembler.specs.Cells.{cell}
 use Rattle.assembler.specs.Marks.{mark_of}
-use Rattle.assembler.proofs.Clips.{puts_as, puts_none}
+use Rattle.assembler.proofs.Clips.{puts_as, puts_nothing}
 use Rattle.assembler.proofs.Written.{copies_put, opcode_cell}
 use Rattle.assembler.proofs.writing.put_statement.Goals as goal
 
@@ -30,16 +30,10 @@ returns-in-Copies c =
     (copies_put ls c.args.written.now c.put_copies.new.written c.cells_of.result k _ z c.put_copies.ensures n (search (rules, to_z-of_z)))
 
 pub returns-in-Empty : goal.returns-in-Empty
-returns-in-Empty c =
-    let l = c.args.written.now in
-    puts_as l l _ _ (sym (ap (λ t. map (cell (map mark_of c.args.labels.now)) (cells (stated t))) c.in-Empty.is)) (puts_none l)
+returns-in-Empty c = puts_nothing c.args.written.now _ (ap (λ t. map (cell (map mark_of c.args.labels.now)) (cells (stated t))) c.in-Empty.is)
 
 pub returns-in-Enter : goal.returns-in-Enter
-returns-in-Enter c =
-    let l = c.args.written.now in
-    puts_as l l _ _ (sym (ap (λ t. map (cell (map mark_of c.args.labels.now)) (cells (stated t))) c.in-Enter.is)) (puts_none l)
+returns-in-Enter c = puts_nothing c.args.written.now _ (ap (λ t. map (cell (map mark_of c.args.labels.now)) (cells (stated t))) c.in-Enter.is)
 
 pub returns-in-Unit : goal.returns-in-Unit
-returns-in-Unit c =
-    let l = c.args.written.now in
-    puts_as l l _ _ (sym (ap (λ t. map (cell (map mark_of c.args.labels.now)) (cells (stated t))) c.in-Unit.is)) (puts_none l)
+returns-in-Unit c = puts_nothing c.args.written.now _ (ap (λ t. map (cell (map mark_of c.args.labels.now)) (cells (stated t))) c.in-Unit.is)

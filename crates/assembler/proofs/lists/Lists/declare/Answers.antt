@@ -8,7 +8,8 @@ use Rattle.assembler.specs.declared.tally.Tally.{Tally}
 use Rattle.assembler.specs.Marks.{Entry}
 use Rattle.assembler.specs.Progress.{marks, survey_of}
 use Rattle.assembler.specs.Survey.{demand, surveyed, declaring, go}
-use Rattle.assembler.proofs.Surveys.{kept_same, refused}
+use Rattle.assembler.proofs.Clips.{kept_same}
+use Rattle.assembler.proofs.Surveys.{refused}
 use Rattle.assembler.proofs.lists.Lists.declare.Goals as goal
 
 -- a unit in time, whose numbers are m and r

@@ -7,7 +7,8 @@ use Rattle.syntax.specs.Stated.{label_of}
 use Rattle.assembler.specs.Marks.{Mark}
 use Rattle.assembler.specs.Progress.{entries, marks, survey_of}
 use Rattle.assembler.specs.Survey.{go, surveyed, putting, grown}
-use Rattle.assembler.proofs.Surveys.{kept_same, refused}
+use Rattle.assembler.proofs.Clips.{kept_same}
+use Rattle.assembler.proofs.Surveys.{refused}
 use Rattle.assembler.proofs.lists.Lists.put_cells.Goals as goal
 
 pub add_label-requires : goal.add_label-requires

@@ -29,34 +29,25 @@ pub returns-in-Instruction : goal.returns-in-Instruction
 returns-in-Instruction c =
     let a = c.args.self.now in
     let t = c.args.tally in
-    let e = is_code_eq t.section c.eq-code.result c.eq-code.ensures in
-    record {
-      step = c.put_allowed.ensures.step
-          ∙ put_taken a t (stated c.args.statement) (label_of c.in-Instruction.label) (is_code t.section) c.eq-code.result c.cells_of-n.result (ap (λ s. taken (room a.labels.now) (room a.units.now) (survey_of t a) (stated s)) c.in-Instruction.is ∙ sym (ap (λ s. demand (is_code t.section) WrongSection (putting (room a.labels.now) (room a.units.now) (survey_of t a) (label_of c.in-Instruction.label) (length (cells (stated s))))) c.in-Instruction.is)) e c.cells_of-n.ensures;
-      kept = c.put_allowed.ensures.kept;
-      grows = c.put_allowed.ensures.grows;
-    }
+    let w = label_of c.in-Instruction.label in
+    put_taken a _ t c.put_allowed.result (stated c.args.statement) w (is_code t.section) c.eq-code.result c.cells_of-n.result
+    (ap (λ s. taken (room a.labels.now) (room a.units.now) (survey_of t a) (stated s)) c.in-Instruction.is ∙ sym (ap (λ s. demand (is_code t.section) WrongSection (putting (room a.labels.now) (room a.units.now) (survey_of t a) w (length (cells (stated s))))) c.in-Instruction.is))
+    (is_code_eq t.section c.eq-code.result c.eq-code.ensures) c.cells_of-n.ensures c.put_allowed.ensures
 
 pub returns-in-Words : goal.returns-in-Words
 returns-in-Words c =
     let a = c.args.self.now in
     let t = c.args.tally in
-    let e = is_code_eq t.section c.eq-code.result c.eq-code.ensures in
-    record {
-      step = c.put_allowed-in-Words.ensures.step
-          ∙ put_taken a t (stated c.args.statement) (label_of c.in-Words.label) (not (is_code t.section)) (not c.eq-code.result) c.cells_of-n.result (ap (λ s. taken (room a.labels.now) (room a.units.now) (survey_of t a) (stated s)) c.in-Words.is ∙ sym (ap (λ s. demand (not (is_code t.section)) WrongSection (putting (room a.labels.now) (room a.units.now) (survey_of t a) (label_of c.in-Words.label) (length (cells (stated s))))) c.in-Words.is)) (ap not e) c.cells_of-n.ensures;
-      kept = c.put_allowed-in-Words.ensures.kept;
-      grows = c.put_allowed-in-Words.ensures.grows;
-    }
+    let w = label_of c.in-Words.label in
+    put_taken a _ t c.put_allowed-in-Words.result (stated c.args.statement) w (not (is_code t.section)) (not c.eq-code.result) c.cells_of-n.result
+    (ap (λ s. taken (room a.labels.now) (room a.units.now) (survey_of t a) (stated s)) c.in-Words.is ∙ sym (ap (λ s. demand (not (is_code t.section)) WrongSection (putting (room a.labels.now) (room a.units.now) (survey_of t a) w (length (cells (stated s))))) c.in-Words.is))
+    (ap not (is_code_eq t.section c.eq-code.result c.eq-code.ensures)) c.cells_of-n.ensures c.put_allowed-in-Words.ensures
 
 pub returns-in-Copies : goal.returns-in-Copies
 returns-in-Copies c =
     let a = c.args.self.now in
     let t = c.args.tally in
-    let e = is_code_eq t.section c.eq-code.result c.eq-code.ensures in
-    record {
-      step = c.put_allowed-in-Copies.ensures.step
-          ∙ put_taken a t (stated c.args.statement) (label_of c.in-Copies.label) (not (is_code t.section)) (not c.eq-code.result) c.cells_of-n.result (ap (λ s. taken (room a.labels.now) (room a.units.now) (survey_of t a) (stated s)) c.in-Copies.is ∙ sym (ap (λ s. demand (not (is_code t.section)) WrongSection (putting (room a.labels.now) (room a.units.now) (survey_of t a) (label_of c.in-Copies.label) (length (cells (stated s))))) c.in-Copies.is)) (ap not e) c.cells_of-n.ensures;
-      kept = c.put_allowed-in-Copies.ensures.kept;
-      grows = c.put_allowed-in-Copies.ensures.grows;
-    }
+    let w = label_of c.in-Copies.label in
+    put_taken a _ t c.put_allowed-in-Copies.result (stated c.args.statement) w (not (is_code t.section)) (not c.eq-code.result) c.cells_of-n.result
+    (ap (λ s. taken (room a.labels.now) (room a.units.now) (survey_of t a) (stated s)) c.in-Copies.is ∙ sym (ap (λ s. demand (not (is_code t.section)) WrongSection (putting (room a.labels.now) (room a.units.now) (survey_of t a) w (length (cells (stated s))))) c.in-Copies.is))
+    (ap not (is_code_eq t.section c.eq-code.result c.eq-code.ensures)) c.cells_of-n.ensures c.put_allowed-in-Copies.ensures
