@@ -1,20 +1,22 @@
 -- The cells of items.
-use Rattle.std.proofs.Common.{◌≡◌, ℕ, zero, suc, Bool, true, false, cond, List, [], ◌∷◌, ◌++◌, map, replicate, ℤ, pos, Err, sym, refl, ap, ◌∙◌}
+use Rattle.std.proofs.Common.{◌≡◌, ℕ, zero, suc, ◌+◌, ◌<◌, ◌≤◌, Bool, true, false, cond, List, [], ◌∷◌, ◌++◌, map, get_or, drop, replicate, ℤ, pos, Err, sym, refl, ap, ◌∙◌}
 use Rattle.isa.specs.Table.{number}
 use Rattle.isa.specs.declared.opcode.Opcode.{Opcode}
 use Rattle.isa.specs.declared.opcode.Opcode.TheVariants.{Push, Add, Sub, Mul, Div, Mod, Neg, And, Or, Not, Eq, Ne, Lt, Gt, Le, Ge, Dup, Pop, Swap, Jump, Bf, Bt, Nop, Read, Bprint, Cprint, Iprint, Sprint, Prnln, Load, Store, Loadref, Storeref, Deref, Call, Loadfp, Loadsp, Storefp, Rmem, Fmem, Ret, Halt, Loadpc, Storepc, Storesp, Loadhp, Storehp, Loadhl, Storehl}
 use Rattle.program.specs.declared.section.Section.{Section}
+use Rattle.program.specs.declared.section.Section.TheVariants.{Code, Data, Heap}
 use Rattle.slots.specs.declared.list.SlotList.{SlotList}
-use Rattle.std.proofs.lemmas.List.{map-append}
+use Rattle.std.proofs.lemmas.List.{append-nil, drop_all, drop_more, map-append}
+use Rattle.std.specs.List.{flat_map}
 use Rattle.syntax.specs.Cells.{cells}
 use Rattle.syntax.specs.Forms.{Item, value, byte, Form, form}
 use Rattle.syntax.specs.Stated.{line_form}
 use Rattle.syntax.specs.declared.statements.LineFault.{LineFault}
 use Rattle.syntax.specs.declared.statements.LineFault.TheVariants as L
-use Rattle.assembler.specs.Cells.{cell, in_cell, items_in, same_section, following_section}
+use Rattle.assembler.specs.Cells.{all, both, cell, in_cell, items_in, same_section, following_section}
 use Rattle.assembler.specs.Marks.{Mark}
-use Rattle.assembler.specs.Progress.{Puts}
-use Rattle.assembler.proofs.Clips.{puts_as}
+use Rattle.assembler.specs.Progress.{Puts, clipped}
+use Rattle.assembler.proofs.Clips.{left_then, puts_as, puts_then}
 
 -- quoted bytes
 pub cells_bytes : (ls : List Mark) (bs : List ℕ) → map pos bs ≡ map (cell ls) (map byte bs)
@@ -59,6 +61,32 @@ items_more ls want p q b rest line after e f g =
     ∙ map-append (cell ls) (cond (same_section want p) (cells (form line)) []) (items_in want (following_section p (form line)) (map form after))
     ∙ ap (λ c. map (cell ls) (cond c (cells (form line)) []) ++ map (cell ls) (items_in want (following_section p (form line)) (map form after))) (sym f)
     ∙ ap (λ r. map (cell ls) (cond b (cells (form line)) []) ++ map (cell ls) (items_in want r (map form after))) (sym g)
+
+-- one section after another
+abbrev pub sections : List Section
+sections = Code ∷ Data ∷ Heap ∷ []
+
+module _ (ls : List Mark) (site library : List Form) where
+  abbrev pub sections_left : ℕ → List ℤ
+  sections_left i = map (cell ls) (flat_map (λ q. both q site library) (drop i sections))
+
+  pub sections_first : sections_left 0 ≡ map (cell ls) (all site library)
+  sections_first = ap (λ is. map (cell ls) (both Code site library ++ (both Data site library ++ is))) (append-nil (both Heap site library))
+
+  pub sections_more : (a b m d : SlotList ℤ) (xs : List ℤ) (i : ℕ) (q : Section) → i < 3 → q ≡ get_or sections i q → clipped b (sections_left i) ≡ clipped a xs
+      → Puts b m (map (cell ls) (items_in q Code site)) → Puts m d (map (cell ls) (items_in q Code library)) → clipped d (sections_left (i + 1)) ≡ clipped a xs
+  sections_more a b m d xs i q h e inv p r =
+      let ys = items_in q Code site in
+      let zs = items_in q Code library in
+      let f : sections_left i ≡ map (cell ls) (both q site library) ++ sections_left (i + 1) =
+          ap (λ s. map (cell ls) (flat_map (λ v. both v site library) s)) (drop_more sections i q h)
+          ∙ ap (λ v. map (cell ls) (both v site library ++ flat_map (λ u. both u site library) (drop (i + 1) sections))) (sym e)
+          ∙ map-append (cell ls) (both q site library) (flat_map (λ u. both u site library) (drop (i + 1) sections)) in
+      left_then a b d (map (cell ls) (both q site library)) (sections_left i) xs (sections_left (i + 1)) inv f
+      (puts_as b d (map (cell ls) ys ++ map (cell ls) zs) (map (cell ls) (both q site library)) (sym (map-append (cell ls) ys zs)) (puts_then b m d (map (cell ls) ys) (map (cell ls) zs) p r))
+
+  pub sections_none : (i : ℕ) → 3 ≤ i → sections_left i ≡ []
+  sections_none i h = ap (λ s. map (cell ls) (flat_map (λ q. both q site library) s)) (drop_all i sections h)
 
 -- an opcode's number is a cell
 pub opcode_cell : (op : Opcode) → pos (number op) ≡ in_cell (pos (number op))

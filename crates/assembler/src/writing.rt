@@ -171,19 +171,12 @@ fn write_section(written: &mut SlotList<i32>, labels: &[Label], want: Section, t
     }
 }
 
-// The cells of one section of both texts.
-fn write_both(written: &mut SlotList<i32>, labels: &[Label], want: Section, texts: Texts)
-    ensures { Puts written.old written.new (map (cell (map mark_of labels.now)) (both want (forms texts.entry.site.now) (forms texts.entry.library.now))) }
-{
-    write_section(written, labels, want, texts.site);
-    write_section(written, labels, want, texts.library);
-}
-
 // All cells of a program.
 pub(crate) fn write_all(written: &mut SlotList<i32>, labels: &[Label], texts: Texts)
     ensures { Puts written.old written.new (map (cell (map mark_of labels.now)) (all (forms texts.entry.site.now) (forms texts.entry.library.now))) }
 {
-    write_both(written, labels, Section::Code, texts);
-    write_both(written, labels, Section::Data, texts);
-    write_both(written, labels, Section::Heap, texts);
+    for want in [Section::Code, Section::Data, Section::Heap] {
+        write_section(written, labels, want, texts.site);
+        write_section(written, labels, want, texts.library);
+    }
 }
