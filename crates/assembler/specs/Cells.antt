@@ -1,5 +1,5 @@
 -- The cells of a program, once its labels have addresses.
-use Rattle.std.specs.Prelude.{ℕ, suc, ◌+◌, ◌^◌, Bool, true, false, List, [], ◌∷◌, ◌++◌, ℤ, pos, Some, None, Option, nat_lt}
+use Rattle.std.specs.Prelude.{ℕ, suc, ◌+◌, ◌^◌, Bool, true, false, List, [], ◌∷◌, ◌++◌, ℤ, pos, Some, None, Option, is_some, unwrap_or, nat_lt}
 use Rattle.std.specs.List.{list_all}
 use Rattle.program.specs.Names.{smalls}
 use Rattle.program.specs.declared.section.Section.{Section}
@@ -24,28 +24,19 @@ word n = elim (nat_lt n (2 ^ 32)) [ true ↦ n | false ↦ 0 ]
 abbrev pub laid : Tally → Mark → Mark
 laid t l = mark l.name l.section (word (base t l.section + l.address))
 
--- an address that was found, or 0
-abbrev pub or_zero : Option ℕ → ℕ
-or_zero None = 0
-or_zero (Some a) = a
-
-abbrev pub is_there : Option ℕ → Bool
-is_there None = false
-is_there (Some a) = true
-
 -- a cell: every number and address of a program is in its range
 abbrev pub in_cell : ℤ → ℤ
 in_cell z = elim (cell_range z) [ true ↦ z | false ↦ pos 0 ]
 
 module _ (ls : List Mark) where
-  -- a unit with its entry: the address of the label of its name, which stands in small letters
+  -- a unit with its entry: the address of the label of its name, which stands in small letters; 0 if there is none
   abbrev pub opening : Entry → Entry
-  opening u = entry u.name (or_zero (find (smalls u.name) ls)) u.arguments u.results
+  opening u = entry u.name (unwrap_or (find (smalls u.name) ls) 0) u.arguments u.results
 
   -- has an item's name a label?
   abbrev pub known : Item → Bool
   known (value z) = true
-  known (at w) = is_there (find w ls)
+  known (at w) = is_some (find w ls)
   known (byte c) = true
 
   abbrev pub all_known : List Item → Bool
@@ -57,7 +48,7 @@ module _ (ls : List Mark) where
   resolved unfit = true
   resolved empty = true
   resolved (section p) = true
-  resolved (unit w m r) = is_there (find w ls)
+  resolved (unit w m r) = is_some (find w ls)
   resolved (instruction l op is) = all_known is
   resolved (words l ts) = all_known (items ts)
   resolved (copies l k z) = true
@@ -67,10 +58,10 @@ module _ (ls : List Mark) where
   unresolved k [] = None
   unresolved k (f ∷ fs) = elim (resolved f) [ true ↦ unresolved (suc k) fs | false ↦ Some k ]
 
-  -- the cell that an item becomes
+  -- the cell that an item becomes; 0 for a name that no label has
   abbrev pub cell : Item → ℤ
   cell (value z) = in_cell z
-  cell (at w) = in_cell (pos (or_zero (find w ls)))
+  cell (at w) = in_cell (pos (unwrap_or (find w ls) 0))
   cell (byte c) = pos c
 
 -- the section of the lines after a line

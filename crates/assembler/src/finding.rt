@@ -1,6 +1,6 @@
 // Names and the labels that they stand for.
 ghost use Rattle.assembler.specs.Assembly.{forms};
-ghost use Rattle.assembler.specs.Cells.{all_known, is_there, resolved, unresolved};
+ghost use Rattle.assembler.specs.Cells.{all_known, resolved, unresolved};
 ghost use Rattle.assembler.specs.Marks.{find as find_mark, mark_of};
 ghost use Rattle.program.specs.Names.{smalls};
 ghost use Rattle.syntax.specs.Cells.{items, items_of};
@@ -8,7 +8,7 @@ ghost use Rattle.syntax.specs.Forms.{form};
 ghost use Rattle.syntax.specs.Meant.{meant};
 ghost use Rattle.syntax.specs.Stated.{argued, stated};
 ghost use Rattle.syntax.specs.Tokens.{tokens};
-ghost use Rattle.std.specs.Prelude.{◌≡◌, ◌≤◌, map, length};
+ghost use Rattle.std.specs.Prelude.{◌≡◌, ◌≤◌, map, length, is_some};
 
 use program::Label;
 use syntax::{Argument, Lines, Statement, Token, Tokens, statement_of};
@@ -24,7 +24,7 @@ pub(crate) fn find(labels: &[Label], word: &[u8]) -> Option<u32>
 }
 
 fn is_known(labels: &[Label], word: &[u8]) -> bool
-    ensures { result ≡ is_there (find_mark (smalls word.now) (map mark_of labels.now)) }
+    ensures { result ≡ is_some (find_mark (smalls word.now) (map mark_of labels.now)) }
 {
     find(labels, word).is_some()
 }

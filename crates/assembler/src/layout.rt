@@ -1,9 +1,9 @@
 // Sections follow one another in memory: labels get their addresses, and units their entries.
-ghost use Rattle.assembler.specs.Cells.{base, laid, opening, or_zero, word};
+ghost use Rattle.assembler.specs.Cells.{base, laid, opening, word};
 ghost use Rattle.assembler.specs.Marks.{entry_of, find as find_mark, mark_of};
 ghost use Rattle.assembler.specs.Progress.{Kept, Small, entries, marks};
 ghost use Rattle.program.specs.Names.{smalls};
-ghost use Rattle.std.specs.Prelude.{◌≡◌, ◌≤◌, map};
+ghost use Rattle.std.specs.Prelude.{◌≡◌, ◌≤◌, map, unwrap_or};
 
 use crate::finding::find;
 use crate::tally::Tally;
@@ -51,7 +51,7 @@ pub(crate) fn lay_out(tally: Tally, labels: &mut SlotList<Label>)
 
 // The address of the label of that name, or 0.
 pub(crate) fn entry_of(labels: &[Label], word: &[u8]) -> u32
-    ensures { result ≡ or_zero (find_mark (smalls word.now) (map mark_of labels.now)) }
+    ensures { result ≡ unwrap_or (find_mark (smalls word.now) (map mark_of labels.now)) 0 }
 {
     find(labels, word).unwrap_or(0)
 }

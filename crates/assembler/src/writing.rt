@@ -2,7 +2,7 @@
 // Stays: `written` and `labels` go together as two parameters. A struct of both would hold a `&mut`, and each of its
 // methods would have to promise besides that it is the same one.
 ghost use Rattle.assembler.specs.Assembly.{forms};
-ghost use Rattle.assembler.specs.Cells.{all, both, cell, in_cell, items_in, or_zero, same_section, following_section};
+ghost use Rattle.assembler.specs.Cells.{all, both, cell, in_cell, items_in, same_section, following_section};
 ghost use Rattle.assembler.specs.Marks.{find as find_mark, mark_of};
 ghost use Rattle.assembler.specs.Progress.{Puts};
 ghost use Rattle.decimal.specs.Numbers.{numeral};
@@ -14,7 +14,7 @@ ghost use Rattle.syntax.specs.Forms.{byte, form};
 ghost use Rattle.syntax.specs.Meant.{meant};
 ghost use Rattle.syntax.specs.Stated.{argued, stated};
 ghost use Rattle.syntax.specs.Tokens.{tokens};
-ghost use Rattle.std.specs.Prelude.{◌≡◌, [], ◌∷◌, map, length, replicate, pos, if◌then◌else◌};
+ghost use Rattle.std.specs.Prelude.{◌≡◌, [], ◌∷◌, map, length, replicate, pos, if◌then◌else◌, unwrap_or};
 
 use crate::layout::entry_of;
 use crate::texts::Texts;
@@ -58,7 +58,7 @@ fn number_cell(digits: &[u8]) -> i32
 
 // The address of a label, in a cell.
 fn label_cell(labels: &[Label], word: &[u8]) -> i32
-    ensures { result ≡ in_cell (pos (or_zero (find_mark (smalls word.now) (map mark_of labels.now)))) }
+    ensures { result ≡ in_cell (pos (unwrap_or (find_mark (smalls word.now) (map mark_of labels.now)) 0)) }
 {
     i32::try_from(entry_of(labels, word)).unwrap_or(0)
 }
