@@ -1,5 +1,5 @@
 -- The lines of a text, one line on.
-use Rattle.std.proofs.Common.{◌≡◌, ℕ, suc, ◌+◌, List, [], ◌∷◌, map, Ok, Err, IsErrAnd, Result, MatchResult, sym, refl, ap, ◌∙◌, add-one}
+use Rattle.std.proofs.Common.{◌≡◌, ℕ, suc, ◌+◌, List, ◌∷◌, map, Ok, Err, Result, sym, refl, ap, ◌∙◌, add-one}
 use Rattle.program.specs.declared.fault.AssemblyCause.{AssemblyCause}
 use Rattle.syntax.specs.Forms.{Form, form}
 use Rattle.assembler.specs.declared.lists.Lists.{Lists}

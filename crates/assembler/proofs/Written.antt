@@ -79,9 +79,9 @@ module _ (ls : List Mark) (site library : List Form) where
       let ys = items_in q Code site in
       let zs = items_in q Code library in
       let f : sections_left i ≡ map (cell ls) (both q site library) ++ sections_left (i + 1) =
-          ap (λ s. map (cell ls) (flat_map (λ v. both v site library) s)) (drop_more sections i q h)
-          ∙ ap (λ v. map (cell ls) (both v site library ++ flat_map (λ u. both u site library) (drop (i + 1) sections))) (sym e)
-          ∙ map-append (cell ls) (both q site library) (flat_map (λ u. both u site library) (drop (i + 1) sections)) in
+      ap (λ s. map (cell ls) (flat_map (λ v. both v site library) s)) (drop_more sections i q h)
+      ∙ ap (λ v. map (cell ls) (both v site library ++ flat_map (λ u. both u site library) (drop (i + 1) sections))) (sym e)
+      ∙ map-append (cell ls) (both q site library) (flat_map (λ u. both u site library) (drop (i + 1) sections)) in
       left_then a b d (map (cell ls) (both q site library)) (sections_left i) xs (sections_left (i + 1)) inv f
       (puts_as b d (map (cell ls) ys ++ map (cell ls) zs) (map (cell ls) (both q site library)) (sym (map-append (cell ls) ys zs)) (puts_then b m d (map (cell ls) ys) (map (cell ls) zs) p r))
 

@@ -35,13 +35,7 @@ pub(crate) fn assemble_fit(
     let mut written = SlotList::new(memory, cells);
     let mut label_list = SlotList::new(labels, 512);
     let mut unit_list = SlotList::new(units, 64);
-    match build(
-        cells,
-        texts,
-        &mut written,
-        &mut label_list,
-        &mut unit_list,
-    ) {
+    match build(cells, texts, &mut written, &mut label_list, &mut unit_list) {
         Ok(program) => {
             written.fill_rest(0);
             label_list.fill_rest(Label::empty());

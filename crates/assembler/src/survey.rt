@@ -63,7 +63,9 @@ fn enter(tally: Tally, section: Section) -> Tally
 fn octet_of(number: &[u8]) -> u8
     ensures { result ≡ octet (numeral number.now) }
 {
-    cell_number(number).and_then(|n| u8::try_from(n).ok()).unwrap_or(0)
+    cell_number(number)
+        .and_then(|n| u8::try_from(n).ok())
+        .unwrap_or(0)
 }
 
 // A label at the end of the section at hand.
@@ -170,11 +172,7 @@ impl Lists<'_, '_, '_> {
     }
 
     // A statement whose numbers are in range.
-    fn take_statement(
-        &mut self,
-        statement: Statement,
-        tally: Tally,
-    ) -> Result<Tally, AssemblyCause>
+    fn take_statement(&mut self, statement: Statement, tally: Tally) -> Result<Tally, AssemblyCause>
         requires small { Small tally 1000000000 }
         requires limited { Limited (stated statement) }
         ensures { Stepped self.old self.new tally result (taken (room self.old.labels.now) (room self.old.units.now) (survey_of tally self.old) (stated statement.entry)) }

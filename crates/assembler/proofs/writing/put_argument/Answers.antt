@@ -1,4 +1,4 @@
-use Rattle.std.proofs.Common.{map, sym, ap}
+use Rattle.std.proofs.Common.{map, ap}
 use Rattle.syntax.specs.Stated.{argued}
 use Rattle.assembler.specs.Cells.{cell}
 use Rattle.assembler.specs.Marks.{mark_of}

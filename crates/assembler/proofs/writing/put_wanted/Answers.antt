@@ -1,4 +1,4 @@
-use Rattle.std.proofs.Common.{cond, [], map, sym, ap}
+use Rattle.std.proofs.Common.{cond, [], map, ap}
 use Rattle.syntax.specs.Cells.{cells}
 use Rattle.syntax.specs.Stated.{stated}
 use Rattle.assembler.specs.Cells.{cell}

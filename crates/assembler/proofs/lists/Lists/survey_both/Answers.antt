@@ -45,5 +45,5 @@ returns c =
     let m = mapped_ok c.survey_text.result c.map_err.result _ c.in_ok-tally.tally c.map_err.ensures.cases c.in_ok-tally.was in
     let t = subst (Bounded fresh.tally) m c.survey_text.ensures.grows 0 (omega arith, omega arith, omega arith) in
     let f = passes (forms c.args.texts.site.now) (forms c.args.texts.library.now) a b d c.in_ok-tally.tally c.requires.no_labels c.requires.no_units (sym (ap (λ r. surveyed_to r b) m) ∙ c.survey_text.ensures.survey) c.survey_text.ensures.kept t
-            c.survey_text-2.result c.map_err-2.result _ c.reopened.result c.reopened.ensures.is c.survey_text-2.ensures.survey c.survey_text-2.ensures.grows c.map_err-2.ensures.cases (λ e g k. search rules) in
+    c.survey_text-2.result c.map_err-2.result _ c.reopened.result c.reopened.ensures.is c.survey_text-2.ensures.survey c.survey_text-2.ensures.grows c.map_err-2.ensures.cases (λ e g k. search rules) in
     record { surveys = f.0; small = f.1; kept = both_then a b d c.survey_text.ensures.kept c.survey_text-2.ensures.kept }

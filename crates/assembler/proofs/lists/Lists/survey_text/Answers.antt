@@ -1,10 +1,9 @@
-use Rattle.std.proofs.Common.{◌≡◌, ◌+◌, ◌*◌, ◌≤◌, map, length, Err, inl, sym, ap, ◌∙◌, subst, arith, rules}
+use Rattle.std.proofs.Common.{◌≡◌, ◌+◌, ◌*◌, map, length, Err, inl, sym, ap, ◌∙◌, subst, arith, rules}
 use Rattle.std.proofs.lemmas.Result.{err_from_is_err_and}
 use Rattle.std.specs.Iterator.Adapters.{enumerate_count, enumerate_source}
 use Rattle.slots.specs.Items.{room}
 use Rattle.syntax.specs.Forms.{form}
 use Rattle.syntax.specs.Left.{lines_left}
-use Rattle.syntax.specs.Lines.{lines}
 use Rattle.assembler.specs.Progress.{Bounded, Grows, stepped, survey_of, surveyed_to}
 use Rattle.assembler.specs.Survey.{fault, survey}
 use Rattle.assembler.proofs.Exits.{mapped_err, mapped_ok}
