@@ -13,24 +13,6 @@ use Rattle.assembler.proofs.Clips.{kept_same, puts_as}
 use Rattle.assembler.proofs.Passes.{built, counts_same, unlinked}
 use Rattle.assembler.proofs.building.link.Goals as goal
 
-pub returns-in_err-check_names : goal.returns-in_err-check_names
-returns-in_err-check_names c =
-    let n = c.args.cells in
-    let site = forms c.args.texts.site.now in
-    let library = forms c.args.texts.library.now in
-    let t = c.args.tally in
-    let l = c.args.labels.now in
-    let u = c.args.units.now in
-    let f = c.in_err-check_names.field-0.0 in
-    let p = err_from_is_err_and c.from_residual.result c.from_residual.ensures.1 in
-    record {
-      builds = unlinked n site library t (marks l) (marks c.lay_out.new.labels) (entries u) (entries u) _ c.from_residual.result p.0 f c.if-code-data.false c.lay_out.ensures.labels p.1 p.2
-          (subst (λ (xs : List Label). Refuses f (linked n site library (surveyed t (marks l) (entries u)) (map mark_of xs))) c.items.ensures (c.in_err-check_names.ensures n (surveyed t (marks l) (entries u))));
-      written = kept_same c.args.written.now;
-      labels = c.lay_out.ensures.kept;
-      units = kept_same u;
-    }
-
 pub returns : goal.returns
 returns c =
     let n = c.args.cells in

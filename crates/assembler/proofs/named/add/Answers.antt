@@ -5,12 +5,6 @@ use Rattle.assembler.specs.Marks.{has}
 use Rattle.assembler.proofs.Adding.{adding_twice, pushed}
 use Rattle.assembler.proofs.named.add.Goals as goal
 
-pub returns-then-is_given : goal.returns-then-is_given
-returns-then-is_given g c =
-    let l = c.args.list.now in
-    let e : true ≡ has (smalls c.args.word.now) (map g.T.Named.named (items l)) = c.if-is_given.ensures ∙ ap (λ xs. has (smalls c.args.word.now) (map g.T.Named.named xs)) c.items.ensures in
-    record { added = λ on. adding_twice (room l) (map g.T.Named.named (items l)) (items l) (smalls c.args.word.now) c.args.item on e; kept = record { room = refl; lender = refl } }
-
 pub returns : goal.returns
 returns g c =
     let l = c.args.list.now in

@@ -12,13 +12,6 @@ use Rattle.assembler.proofs.Clips.{puts_as, puts_nothing}
 use Rattle.assembler.proofs.Written.{copies_put, opcode_cell}
 use Rattle.assembler.proofs.writing.put_statement.Goals as goal
 
-pub returns-in-Instruction : goal.returns-in-Instruction
-returns-in-Instruction c =
-    let ls = map mark_of c.args.labels.now in
-    let op = c.in-Instruction.op in
-    puts_as c.args.written.now c.put_instruction.new.written (pos (number op) ∷ map (cell ls) (argued c.in-Instruction.argument)) _
-    (ap (λ z. z ∷ map (cell ls) (argued c.in-Instruction.argument)) (opcode_cell op) ∙ sym (ap (λ t. map (cell ls) (cells (stated t))) c.in-Instruction.is)) c.put_instruction.ensures
-
 pub returns-in-Copies : goal.returns-in-Copies
 returns-in-Copies c =
     let ls = map mark_of c.args.labels.now in
@@ -28,12 +21,3 @@ returns-in-Copies c =
     let n = c.cells_of.ensures ∙ ap (λ t. length (cells (stated t))) c.in-Copies.is ∙ length-replicate k (value z) in
     puts_as c.args.written.now c.put_copies.new.written (map (cell ls) (replicate k (value z))) _ (sym e)
     (copies_put ls c.args.written.now c.put_copies.new.written c.cells_of.result k _ z c.put_copies.ensures n (search (rules, to_z-of_z)))
-
-pub returns-in-Empty : goal.returns-in-Empty
-returns-in-Empty c = puts_nothing c.args.written.now _ (ap (λ t. map (cell (map mark_of c.args.labels.now)) (cells (stated t))) c.in-Empty.is)
-
-pub returns-in-Enter : goal.returns-in-Enter
-returns-in-Enter c = puts_nothing c.args.written.now _ (ap (λ t. map (cell (map mark_of c.args.labels.now)) (cells (stated t))) c.in-Enter.is)
-
-pub returns-in-Unit : goal.returns-in-Unit
-returns-in-Unit c = puts_nothing c.args.written.now _ (ap (λ t. map (cell (map mark_of c.args.labels.now)) (cells (stated t))) c.in-Unit.is)

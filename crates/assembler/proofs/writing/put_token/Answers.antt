@@ -11,6 +11,3 @@ pub returns-in-Text : goal.returns-in-Text
 returns-in-Text c =
     let ls = map mark_of c.args.labels.now in
     puts_as c.args.written.now c.put_bytes.new.written (map pos c.in-Text.text.now) _ (cells_bytes ls c.in-Text.text.now ∙ sym (ap (λ t. map (cell ls) (items_of (meant t))) c.in-Text.is)) c.put_bytes.ensures
-
-pub returns-in-Sign : goal.returns-in-Sign
-returns-in-Sign c = puts_nothing c.args.written.now _ (ap (λ t. map (cell (map mark_of c.args.labels.now)) (items_of (meant t))) c.in-Sign.is)

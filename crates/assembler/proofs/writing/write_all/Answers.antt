@@ -7,11 +7,6 @@ use Rattle.assembler.proofs.Clips.{kept_same, kept_then, puts_end}
 use Rattle.assembler.proofs.Written.{sections_first, sections_left, sections_more, sections_none}
 use Rattle.assembler.proofs.writing.write_all.Goals as goal
 
-pub loop-want-init : goal.loop-want-init
-loop-want-init c =
-    let a = c.args.written.now in
-    (ap (clipped a) (sections_first (map mark_of c.args.labels.now) (forms c.args.texts.site.now) (forms c.args.texts.library.now)), kept_same a)
-
 pub loop-want-preserved : goal.loop-want-preserved
 loop-want-preserved c =
     let ls = map mark_of c.args.labels.now in
@@ -26,11 +21,3 @@ loop-want-preserved c =
       sections_more ls site library a b m d (map (cell ls) (all site library)) c.loop-want.want-index _ c.loop-want-test.true (search rules) c.loop-want.invariant.0 p r,
       kept_then a b d c.loop-want.invariant.1 (kept_then b m d p.kept r.kept),
     )
-
-pub returns : goal.returns
-returns c =
-    let ls = map mark_of c.args.labels.now in
-    let site = forms c.args.texts.site.now in
-    let library = forms c.args.texts.library.now in
-    let i = c.loop-want.want-index in
-    puts_end c.args.written.now c.loop-want.written (map (cell ls) (all site library)) (sections_left ls site library i) c.loop-want.invariant.0 (sections_none ls site library i c.loop-want-test.false) c.loop-want.invariant.1

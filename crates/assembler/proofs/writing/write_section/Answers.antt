@@ -32,10 +32,3 @@ loop-line-preserved c =
           p,
       kept_then c.args.written.now c.loop-line.written c.put_line-section.new.written c.loop-line.invariant.3 p.kept,
     )
-
-pub returns : goal.returns
-returns c =
-    let ls = map mark_of c.args.labels.now in
-    let w = c.args.want in
-    let h = rw c.in-None.is at c.next.ensures.steps in
-    puts_end c.args.written.now c.loop-line.written (map (cell ls) (items_in w Code (forms c.args.text.now))) (map (cell ls) (items_in w c.loop-line.section (map form (lines_left c.loop-line.line-iterator)))) c.loop-line.invariant.2 (ap (λ vs. map (cell ls) (items_in w c.loop-line.section (map form vs))) h.0) c.loop-line.invariant.3

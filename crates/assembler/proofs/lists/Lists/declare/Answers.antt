@@ -19,15 +19,6 @@ in_time a t w m r m' r' e f g =
     let d = declaring (room a.labels.now) (room a.units.now) (survey_of t a) w in
     ap (λ b. demand (not b) LateUnit (d m' r')) e ∙ ap (λ k. d k r') (sym f) ∙ ap (λ k. d m k) (sym g)
 
-pub returns-in_err-add_unit : goal.returns-in_err-add_unit
-returns-in_err-add_unit c =
-    let a = c.args.self.now in
-    let p = err_from_is_err_and c.from_residual.result c.from_residual.ensures.1 in
-    refused a _ c.args.tally c.from_residual.result _ p.0 _ p.1 p.2
-    (sym (in_time a c.args.tally (smalls c.args.word.now) c.octet_of.result c.octet_of-2.result _ _ c.if-tally.false c.octet_of.ensures c.octet_of-2.ensures
-    ∙ c.in_err-add_unit.ensures.added (λ (vs : List Entry). go (surveyed c.args.tally (marks a.labels.now) vs))))
-    (record { labels = kept_same a.labels.now; units = c.add_unit.ensures.kept; labels_at = refl; units_at = refl })
-
 pub returns : goal.returns
 returns c =
     let a = c.args.self.now in
@@ -37,3 +28,12 @@ returns c =
       kept = record { labels = kept_same a.labels.now; units = c.add_unit.ensures.kept; labels_at = refl; units_at = refl };
       grows = λ n h. (omega arith, omega arith, omega arith);
     }
+
+pub returns-in_err-add_unit : goal.returns-in_err-add_unit
+returns-in_err-add_unit c =
+    let a = c.args.self.now in
+    let p = err_from_is_err_and c.from_residual.result c.from_residual.ensures.1 in
+    refused a _ c.args.tally c.from_residual.result _ p.0 _ p.1 p.2
+    (sym (in_time a c.args.tally (smalls c.args.word.now) c.octet_of.result c.octet_of-2.result _ _ c.if-tally.false c.octet_of.ensures c.octet_of-2.ensures
+    ∙ c.in_err-add_unit.ensures.added (λ (vs : List Entry). go (surveyed c.args.tally (marks a.labels.now) vs))))
+    (record { labels = kept_same a.labels.now; units = c.add_unit.ensures.kept; labels_at = refl; units_at = refl })

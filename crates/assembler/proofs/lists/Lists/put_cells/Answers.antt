@@ -11,21 +11,6 @@ use Rattle.assembler.proofs.Clips.{kept_same}
 use Rattle.assembler.proofs.Surveys.{refused}
 use Rattle.assembler.proofs.lists.Lists.put_cells.Goals as goal
 
-pub add_label-requires : goal.add_label-requires
-add_label-requires c =
-    let w = c.in-Some.word.now in
-    let h : length (smalls w) ≤ 31 = rw c.in-Some.is at c.requires.short_label in
-    record { small = c.requires.small; short = rw (length-map w small) at h }
-
-pub returns-in_err-add_label : goal.returns-in_err-add_label
-returns-in_err-add_label c =
-    let a = c.args.self.now in
-    let p = err_from_is_err_and c.from_residual.result c.from_residual.ensures.1 in
-    refused a _ c.args.tally c.from_residual.result _ p.0 _ p.1 p.2
-    (sym (ap (λ l. putting (room a.labels.now) (room a.units.now) (survey_of c.args.tally a) (label_of l) c.args.n) c.in-Some.is
-    ∙ c.in_err-add_label.ensures.added (λ (ls : List Mark). go (surveyed (grown c.args.tally c.args.n) ls (entries a.units.now)))))
-    (record { labels = c.add_label.ensures.kept; units = kept_same a.units.now; labels_at = refl; units_at = refl })
-
 pub returns : goal.returns
 returns c =
     let a = c.args.self.now in
@@ -37,3 +22,12 @@ returns c =
       kept = record { labels = c.add_label.ensures.kept; units = kept_same a.units.now; labels_at = refl; units_at = refl };
       grows = c.grow-2.ensures.grows;
     }
+
+pub returns-in_err-add_label : goal.returns-in_err-add_label
+returns-in_err-add_label c =
+    let a = c.args.self.now in
+    let p = err_from_is_err_and c.from_residual.result c.from_residual.ensures.1 in
+    refused a _ c.args.tally c.from_residual.result _ p.0 _ p.1 p.2
+    (sym (ap (λ l. putting (room a.labels.now) (room a.units.now) (survey_of c.args.tally a) (label_of l) c.args.n) c.in-Some.is
+    ∙ c.in_err-add_label.ensures.added (λ (ls : List Mark). go (surveyed (grown c.args.tally c.args.n) ls (entries a.units.now)))))
+    (record { labels = c.add_label.ensures.kept; units = kept_same a.units.now; labels_at = refl; units_at = refl })

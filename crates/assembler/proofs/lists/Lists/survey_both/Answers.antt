@@ -30,13 +30,6 @@ returns-in_err-tally c =
       kept = c.survey_text.ensures.kept;
     }
 
-pub survey_text-requires-2 : goal.survey_text-requires-2
-survey_text-requires-2 c =
-    let m = mapped_ok c.survey_text.result c.map_err.result _ c.in_ok-tally.tally c.map_err.ensures.cases c.in_ok-tally.was in
-    let t = subst (Bounded fresh.tally) m c.survey_text.ensures.grows 0 (omega arith, omega arith, omega arith) in
-    let s = c.reopened.ensures.small 65536000 t in
-    record { short = omega arith; small = (omega arith, omega arith, omega arith) }
-
 pub returns : goal.returns
 returns c =
     let a = c.args.self.now in

@@ -10,21 +10,6 @@ use Rattle.assembler.specs.Survey.{demand, is_code, putting, taken}
 use Rattle.assembler.proofs.Taking.{is_code_eq, put_taken}
 use Rattle.assembler.proofs.lists.Lists.take_statement.Goals as goal
 
-pub declare-requires : goal.declare-requires
-declare-requires c =
-    let w = c.in-Unit.name.now in
-    let h : length (smalls w) ≤ 31 = rw c.in-Unit.is at c.requires.limited.name in
-    rw (length-map w small) at h
-
-pub returns-in-Unit : goal.returns-in-Unit
-returns-in-Unit c =
-    let a = c.args.self.now in
-    record {
-      step = c.declare.ensures.step ∙ sym (ap (λ s. taken (room a.labels.now) (room a.units.now) (survey_of c.args.tally a) (stated s)) c.in-Unit.is);
-      kept = c.declare.ensures.kept;
-      grows = c.declare.ensures.grows;
-    }
-
 pub returns-in-Instruction : goal.returns-in-Instruction
 returns-in-Instruction c =
     let a = c.args.self.now in
