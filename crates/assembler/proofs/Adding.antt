@@ -7,7 +7,7 @@ use Rattle.slots.specs.declared.list.SlotList.{SlotList}
 use Rattle.std.proofs.lemmas.Bool.{lt-ltb, le-ltb}
 use Rattle.program.specs.Names.{same}
 use Rattle.program.specs.declared.fault.AssemblyCause.{AssemblyCause}
-use Rattle.program.specs.declared.fault.AssemblyCause.TheVariants.{GivenTwice, ListFull}
+use Rattle.program.specs.declared.fault.AssemblyCause.TheVariants.{ListFull}
 use Rattle.assembler.specs.Marks.{has}
 use Rattle.assembler.specs.Survey.{Step, adding, stop}
 
@@ -27,9 +27,6 @@ has_any named w (x ∷ xs) = go (same w (named x)) refl (has_any named w xs)
     go false e ih = ap (λ b. b || list_any (λ y. same w (named y)) xs) e ∙ ih ∙ sym (has_at_no w (named x) (map named xs) (sym e))
 
 module _ {X : Type 0} (room : ℕ) (names : List (List ℕ)) (xs : List X) (w : List ℕ) (x : X) (on : List X → Step) where
-  pub adding_twice : true ≡ has w names → adding room names xs w x on ≡ stop GivenTwice
-  adding_twice e = rw (← e) refl
-
   pub adding_full : false ≡ has w names → room ≤ length xs → adding room names xs w x on ≡ stop ListFull
   adding_full e h = rw (← e, le-ltb (length xs) room h) refl
 

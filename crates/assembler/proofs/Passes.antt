@@ -114,13 +114,6 @@ fitted_made : (n : ℕ) (site library : List Form) (t : Tally) (m ls : List Mark
 fitted_made n site library t m ls e h f k =
     rw (le-leb (size t) n h, fitted) (ap (linked n site library (surveyed t m e)) (sym f) ∙ k)
 
--- names that are refused
-pub unlinked : (n : ℕ) (site library : List Form) (t : Tally) (m ls : List Mark) (e us : List Entry) (cells : List ℤ) (r : Result Assembled Fault) (y f : Fault) → size t ≤ n → ls ≡ map (laid t) m → r ≡ Err y → y ≡ f → Refuses f (linked n site library (surveyed t m e) ls)
-    → Builds n r (fitted n site library (surveyed t m e)) cells ls us
-unlinked n site library t m ls e us cells r y f h l q k z =
-    let g : fitted n site library (surveyed t m e) ≡ linked n site library (surveyed t m e) ls = rw (le-leb (size t) n h, fitted) (ap (linked n site library (surveyed t m e)) (sym l)) in
-    subst (λ v. Builds n v (fitted n site library (surveyed t m e)) cells ls us) (sym q) (subst (λ v. Refuses v (fitted n site library (surveyed t m e))) (sym k) (subst (Refuses f) (sym g) z))
-
 pub built : (n : ℕ) (site library : List Form) (t : Tally) (m ls : List Mark) (e us : List Entry) (counts : Counts) (v w : SlotList ℤ) (r : Result Assembled Fault)
     → Made r counts
     → counts ≡ record { cells = n; code = t.code; «data» = t.«data»; heap = t.heap; labels = length m; units = length e }

@@ -5,13 +5,10 @@ use Rattle.syntax.specs.Forms.{Form, form}
 use Rattle.assembler.specs.declared.lists.Lists.{Lists}
 use Rattle.assembler.specs.declared.tally.Tally.{Tally}
 use Rattle.assembler.specs.Progress.{KeptBoth, Stepped, stepped}
-use Rattle.assembler.proofs.Clips.{kept_same, kept_then}
-use Rattle.assembler.specs.Survey.{Step, Survey, step, survey, go, stop, fault}
+use Rattle.assembler.specs.Survey.{Step, Survey, step, survey, go, stop}
+use Rattle.assembler.proofs.Clips.{kept_then}
 
 -- the same lists
-pub both_same : (l : Lists) → KeptBoth l l
-both_same l = record { labels = kept_same l.labels.now; units = kept_same l.units.now; labels_at = refl; units_at = refl }
-
 pub both_then : (a b c : Lists) → KeptBoth a b → KeptBoth b c → KeptBoth a c
 both_then a b c p q = record {
   labels = kept_then a.labels.now b.labels.now c.labels.now p.labels q.labels;
@@ -31,14 +28,7 @@ refused a b t (Err x) c d w e f g k = record { step = ap (λ r. stepped r b) e �
 survey_on : (l u k : ℕ) (s t : Survey) (f : Form) (fs : List Form) → step l u s f ≡ go t → survey l u k s (f ∷ fs) ≡ survey l u (suc k) t fs
 survey_on l u k s t f fs e = rw (e, survey) refl
 
-survey_off : (l u k : ℕ) (s : Survey) (c : AssemblyCause) (f : Form) (fs : List Form) → step l u s f ≡ stop c → survey l u k s (f ∷ fs) ≡ fault k c
-survey_off l u k s c f fs e = rw (e, survey) refl
-
 module _ (l u k : ℕ) (s : Survey) (line : List ℕ) (now after : List (List ℕ)) (e : now ≡ line ∷ after) where
   -- a line that is taken, and the lines after it
   pub survey_more : (t : Survey) → go t ≡ step l u s (form line) → survey l u (k + 1) t (map form after) ≡ survey l u k s (map form now)
   survey_more t f = sym (ap (λ ls. survey l u k s (map form ls)) e ∙ survey_on l u k s t (form line) (map form after) (sym f) ∙ ap (λ j. survey l u j t (map form after)) (sym (add-one k)))
-
-  -- a faulty line
-  pub survey_stop : (c : AssemblyCause) → stop c ≡ step l u s (form line) → fault k c ≡ survey l u k s (map form now)
-  survey_stop c f = sym (ap (λ ls. survey l u k s (map form ls)) e ∙ survey_off l u k s c (form line) (map form after) (sym f))

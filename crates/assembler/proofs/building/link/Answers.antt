@@ -1,16 +1,14 @@
-use Rattle.std.proofs.Common.{◌≡◌, List, map, length, sym, ap, ◌∙◌, subst, arith}
+use Rattle.std.proofs.Common.{◌≡◌, List, map, length, sym, ap, ◌∙◌, arith}
 use Rattle.std.proofs.lemmas.List.{length-map, length-take-le}
-use Rattle.std.proofs.lemmas.Result.{err_from_is_err_and}
 use Rattle.program.specs.declared.label.Label.{Label}
 use Rattle.slots.specs.Items.{items, slots_of}
 use Rattle.assembler.specs.Assembly.{forms, linked, made}
-use Rattle.assembler.specs.Builds.{Refuses}
 use Rattle.assembler.specs.Cells.{all, cell, opening}
 use Rattle.assembler.specs.Marks.{mark_of, entry_of}
 use Rattle.assembler.specs.Progress.{entries, marks}
 use Rattle.assembler.specs.Survey.{surveyed}
-use Rattle.assembler.proofs.Clips.{kept_same, puts_as}
-use Rattle.assembler.proofs.Passes.{built, counts_same, unlinked}
+use Rattle.assembler.proofs.Clips.{puts_as}
+use Rattle.assembler.proofs.Passes.{built, counts_same}
 use Rattle.assembler.proofs.building.link.Goals as goal
 
 pub returns : goal.returns

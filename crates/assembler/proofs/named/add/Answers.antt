@@ -1,8 +1,8 @@
-use Rattle.std.proofs.Common.{◌≡◌, true, false, map, refl, ap, ◌∙◌, rules}
+use Rattle.std.proofs.Common.{◌≡◌, false, map, ap, ◌∙◌, rules}
 use Rattle.program.specs.Names.{smalls}
-use Rattle.slots.specs.Items.{items, room}
+use Rattle.slots.specs.Items.{items}
 use Rattle.assembler.specs.Marks.{has}
-use Rattle.assembler.proofs.Adding.{adding_twice, pushed}
+use Rattle.assembler.proofs.Adding.{pushed}
 use Rattle.assembler.proofs.named.add.Goals as goal
 
 pub returns : goal.returns

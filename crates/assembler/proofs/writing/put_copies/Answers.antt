@@ -1,6 +1,6 @@
-use Rattle.std.proofs.Common.{◌≡◌, ◌+◌, ◌-◌, replicate, ap, arith}
+use Rattle.std.proofs.Common.{◌+◌, ◌-◌, replicate, arith}
 use Rattle.std.proofs.lemmas.Int.{to_z-of_z}
-use Rattle.assembler.proofs.Clips.{kept_then, left_more, puts_end, replicate_next}
+use Rattle.assembler.proofs.Clips.{kept_then, left_more, replicate_next}
 use Rattle.assembler.proofs.writing.put_copies.Goals as goal
 
 pub loop-i-preserved : goal.loop-i-preserved

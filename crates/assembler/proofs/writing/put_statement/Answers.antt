@@ -1,15 +1,14 @@
-use Rattle.std.proofs.Common.{◌∷◌, map, length, replicate, pos, sym, ap, ◌∙◌, rules}
+use Rattle.std.proofs.Common.{map, length, replicate, sym, ap, ◌∙◌, rules}
 use Rattle.std.proofs.lemmas.List.{length-replicate}
 use Rattle.std.proofs.lemmas.Int.{to_z-of_z}
 use Rattle.decimal.specs.Numbers.{numeral}
-use Rattle.isa.specs.Table.{number}
 use Rattle.syntax.specs.Cells.{cells, times}
 use Rattle.syntax.specs.Forms.{value}
-use Rattle.syntax.specs.Stated.{argued, stated}
+use Rattle.syntax.specs.Stated.{stated}
 use Rattle.assembler.specs.Cells.{cell}
 use Rattle.assembler.specs.Marks.{mark_of}
-use Rattle.assembler.proofs.Clips.{puts_as, puts_nothing}
-use Rattle.assembler.proofs.Written.{copies_put, opcode_cell}
+use Rattle.assembler.proofs.Clips.{puts_as}
+use Rattle.assembler.proofs.Written.{copies_put}
 use Rattle.assembler.proofs.writing.put_statement.Goals as goal
 
 pub returns-in-Copies : goal.returns-in-Copies

@@ -3,7 +3,7 @@ use Rattle.syntax.specs.Cells.{items_of}
 use Rattle.syntax.specs.Meant.{meant}
 use Rattle.assembler.specs.Cells.{cell}
 use Rattle.assembler.specs.Marks.{mark_of}
-use Rattle.assembler.proofs.Clips.{puts_as, puts_nothing}
+use Rattle.assembler.proofs.Clips.{puts_as}
 use Rattle.assembler.proofs.Written.{cells_bytes}
 use Rattle.assembler.proofs.writing.put_token.Goals as goal
 

@@ -1,10 +1,9 @@
-use Rattle.std.proofs.Common.{map, ap, rules}
+use Rattle.std.proofs.Common.{map, rules}
 use Rattle.assembler.specs.Assembly.{forms}
 use Rattle.assembler.specs.Cells.{all, cell}
 use Rattle.assembler.specs.Marks.{mark_of}
-use Rattle.assembler.specs.Progress.{clipped}
-use Rattle.assembler.proofs.Clips.{kept_same, kept_then, puts_end}
-use Rattle.assembler.proofs.Written.{sections_first, sections_left, sections_more, sections_none}
+use Rattle.assembler.proofs.Clips.{kept_then}
+use Rattle.assembler.proofs.Written.{sections_more}
 use Rattle.assembler.proofs.writing.write_all.Goals as goal
 
 pub loop-want-preserved : goal.loop-want-preserved

@@ -1,4 +1,4 @@
-use Rattle.std.proofs.Common.{◌≡◌, ◌∷◌, cond, [], map, ap, rules}
+use Rattle.std.proofs.Common.{◌≡◌, ◌∷◌, cond, [], map, rules}
 use Rattle.program.specs.declared.section.Section.TheVariants.{Code}
 use Rattle.syntax.specs.Cells.{cells}
 use Rattle.syntax.specs.Forms.{form}
@@ -6,7 +6,7 @@ use Rattle.syntax.specs.Left.{lines_left}
 use Rattle.assembler.specs.Assembly.{forms}
 use Rattle.assembler.specs.Cells.{cell, items_in}
 use Rattle.assembler.specs.Marks.{mark_of}
-use Rattle.assembler.proofs.Clips.{kept_then, left_then, puts_end}
+use Rattle.assembler.proofs.Clips.{kept_then, left_then}
 use Rattle.assembler.proofs.Taking.{same_section_eq}
 use Rattle.assembler.proofs.Written.{items_more}
 use Rattle.assembler.proofs.writing.write_section.Goals as goal

@@ -1,7 +1,5 @@
-use Rattle.std.proofs.Common.{◌≤◌, List, length, sym, refl, ap, ◌∙◌}
-use Rattle.std.proofs.lemmas.List.{length-map}
+use Rattle.std.proofs.Common.{List, sym, refl, ap, ◌∙◌}
 use Rattle.std.proofs.lemmas.Result.{err_from_is_err_and}
-use Rattle.program.specs.Names.{small, smalls}
 use Rattle.slots.specs.Items.{room}
 use Rattle.syntax.specs.Stated.{label_of}
 use Rattle.assembler.specs.Marks.{Mark}

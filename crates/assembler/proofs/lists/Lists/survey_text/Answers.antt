@@ -1,13 +1,12 @@
-use Rattle.std.proofs.Common.{◌≡◌, ◌+◌, ◌*◌, map, length, Err, inl, sym, ap, ◌∙◌, subst, arith, rules}
-use Rattle.std.proofs.lemmas.Result.{err_from_is_err_and}
+use Rattle.std.proofs.Common.{◌+◌, ◌*◌, map, length, inl, sym, ap, ◌∙◌, subst, arith}
 use Rattle.std.specs.Iterator.Adapters.{enumerate_count, enumerate_source}
 use Rattle.slots.specs.Items.{room}
 use Rattle.syntax.specs.Forms.{form}
 use Rattle.syntax.specs.Left.{lines_left}
-use Rattle.assembler.specs.Progress.{Bounded, Grows, stepped, survey_of, surveyed_to}
-use Rattle.assembler.specs.Survey.{fault, survey}
-use Rattle.assembler.proofs.Exits.{mapped_err, mapped_ok}
-use Rattle.assembler.proofs.Surveys.{both_same, both_then, survey_more, survey_stop}
+use Rattle.assembler.specs.Progress.{Grows, stepped, survey_of}
+use Rattle.assembler.specs.Survey.{survey}
+use Rattle.assembler.proofs.Exits.{mapped_ok}
+use Rattle.assembler.proofs.Surveys.{both_then, survey_more}
 use Rattle.assembler.proofs.lists.Lists.survey_text.Goals as goal
 
 pub loop-i-preserved : goal.loop-i-preserved

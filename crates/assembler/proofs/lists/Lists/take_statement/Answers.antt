@@ -1,6 +1,4 @@
-use Rattle.std.proofs.Common.{◌≤◌, not, length, sym, ap, ◌∙◌}
-use Rattle.std.proofs.lemmas.List.{length-map}
-use Rattle.program.specs.Names.{small, smalls}
+use Rattle.std.proofs.Common.{not, length, sym, ap, ◌∙◌}
 use Rattle.program.specs.declared.fault.AssemblyCause.TheVariants.{WrongSection}
 use Rattle.slots.specs.Items.{room}
 use Rattle.syntax.specs.Cells.{cells}
