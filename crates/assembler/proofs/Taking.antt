@@ -13,14 +13,9 @@ use Rattle.assembler.specs.declared.lists.Lists.{Lists}
 use Rattle.assembler.specs.declared.tally.Tally.{Tally}
 use Rattle.assembler.specs.Cells.{same_section}
 use Rattle.assembler.specs.Progress.{Stepped, survey_of}
-use Rattle.assembler.specs.Survey.{demand, is_code, putting, taken}
+use Rattle.assembler.specs.Survey.{demand, putting, taken}
 
 -- what `==` says of two sections
-pub is_code_eq : (p : Section) (b : Bool) → b ≡ sameb the_type p Code → b ≡ is_code p
-is_code_eq Code b e = e
-is_code_eq Data b e = e
-is_code_eq Heap b e = e
-
 pub same_section_eq : (p q : Section) (b : Bool) → b ≡ sameb the_type p q → b ≡ same_section q p
 same_section_eq Code Code b e = e
 same_section_eq Code Data b e = e

@@ -30,6 +30,13 @@ fn extent_of(tally: Tally) -> usize
     }
 }
 
+// Does the section at hand hold code?
+fn is_code(tally: Tally) -> bool
+    ensures { result ≡ is_code tally.section }
+{
+    tally.section == Section::Code
+}
+
 // n more cells in the section at hand.
 fn grow(tally: Tally, n: usize) -> Tally
     requires small { Small tally 1000000000 }
@@ -178,7 +185,7 @@ impl Lists<'_, '_, '_> {
         ensures { Stepped self.old self.new tally result (taken (room self.old.labels.now) (room self.old.units.now) (survey_of tally self.old) (stated statement.entry)) }
     {
         let n = cells_of(statement);
-        let code = tally.section == Section::Code;
+        let code = is_code(tally);
         match statement {
             Statement::Empty => Ok(tally),
             Statement::Enter(section) => Ok(enter(tally, section)),
