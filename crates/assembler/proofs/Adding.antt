@@ -1,10 +1,13 @@
 -- Names looked for among items, and one item more in a list.
-use Rattle.std.proofs.Common.{◌≡◌, ℕ, ◌+◌, ◌<◌, ◌≤◌, true, false, List, [], ◌∷◌, ◌++◌, map, length, get_or, drop, Ok, Err, Result, sym, refl, ap, ◌∙◌, MatchResult}
-use Rattle.std.proofs.lemmas.List.{drop_more, drop_all, length-map, map_push}
+use Rattle.std.proofs.Common.{◌≡◌, ℕ, ◌<◌, ◌≤◌, Bool, true, false, ◌||◌, List, [], ◌∷◌, ◌++◌, map, length, Ok, Err, IsErrAnd, Result, sym, refl, ap, ◌∙◌, MatchResult}
+use Rattle.std.proofs.lemmas.List.{length-map, map_push}
+use Rattle.std.specs.List.{list_any}
+use Rattle.slots.specs.Items.{items, room}
+use Rattle.slots.specs.declared.list.SlotList.{SlotList}
 use Rattle.std.proofs.lemmas.Bool.{lt-ltb, le-ltb}
 use Rattle.program.specs.Names.{same}
 use Rattle.program.specs.declared.fault.AssemblyCause.{AssemblyCause}
-use Rattle.program.specs.declared.fault.AssemblyCause.TheVariants.{GivenTwice, ListFull}
+use Rattle.program.specs.declared.fault.AssemblyCause.TheVariants.{ListFull}
 use Rattle.assembler.specs.Marks.{has}
 use Rattle.assembler.specs.Survey.{Step, adding, stop}
 
@@ -14,26 +17,34 @@ has_at_yes w v vs e = rw (← e, has) refl
 has_at_no : (w v : List ℕ) (vs : List (List ℕ)) → false ≡ same w v → has w (v ∷ vs) ≡ has w vs
 has_at_no w v vs e = rw (← e, has) refl
 
-module _ {T : Type 0} (named : T → List ℕ) (w : List ℕ) (xs : List T) (i : ℕ) where
-  module _ (x : T) (h : i < length xs) (at : x ≡ get_or xs i x) where
-    pub has_here : true ≡ same w (named x) → has w (map named (drop i xs)) ≡ true
-    has_here e = rw (drop_more xs i x h, ← at) (has_at_yes w (named x) (map named (drop (i + 1) xs)) e)
-
-    pub has_on : false ≡ same w (named x) → has w (map named (drop i xs)) ≡ has w (map named (drop (i + 1) xs))
-    has_on e = rw (drop_more xs i x h, ← at) (has_at_no w (named x) (map named (drop (i + 1) xs)) e)
-
-  pub has_none : length xs ≤ i → has w (map named (drop i xs)) ≡ false
-  has_none h = rw (drop_all i xs h) refl
+-- is a word the name of an item?
+pub has_any : {T : Type 0} (named : T → List ℕ) (w : List ℕ) (xs : List T) → list_any (λ x. same w (named x)) xs ≡ has w (map named xs)
+has_any named w [] = refl
+has_any named w (x ∷ xs) = go (same w (named x)) refl (has_any named w xs)
+  where
+    go : (b : Bool) → same w (named x) ≡ b → list_any (λ y. same w (named y)) xs ≡ has w (map named xs) → list_any (λ y. same w (named y)) (x ∷ xs) ≡ has w (named x ∷ map named xs)
+    go true e ih = ap (λ b. b || list_any (λ y. same w (named y)) xs) e ∙ sym (has_at_yes w (named x) (map named xs) (sym e))
+    go false e ih = ap (λ b. b || list_any (λ y. same w (named y)) xs) e ∙ ih ∙ sym (has_at_no w (named x) (map named xs) (sym e))
 
 module _ {X : Type 0} (room : ℕ) (names : List (List ℕ)) (xs : List X) (w : List ℕ) (x : X) (on : List X → Step) where
-  pub adding_twice : true ≡ has w names → adding room names xs w x on ≡ stop GivenTwice
-  adding_twice e = rw (← e) refl
-
   pub adding_full : false ≡ has w names → room ≤ length xs → adding room names xs w x on ≡ stop ListFull
   adding_full e h = rw (← e, le-ltb (length xs) room h) refl
 
   pub adding_new : (ys : List X) → false ≡ has w names → length xs < room → ys ≡ xs ++ x ∷ [] → adding room names xs w x on ≡ on ys
   adding_new ys e h f = rw (← e, lt-ltb (length xs) room h, f) refl
+
+-- a list takes one more, or is full
+pub pushed : {T : Type 0} (r : Result (Unit {0}) T) (s : Result (Unit {0}) AssemblyCause) (P : T → AssemblyCause → Type 0) (old new : SlotList T) (names : List (List ℕ)) (w : List ℕ) (x : T) → false ≡ has w names
+    → MatchResult r (λ u. s ≡ Ok u) (λ y. IsErrAnd s (P y)) → ((y : T) (c : AssemblyCause) → P y c → c ≡ ListFull)
+    → MatchResult r (λ _. (items new ≡ items old ++ x ∷ []) × (length (items old) < room old) × (room new ≡ room old)) (λ _. (room old ≤ length (items old)) × (new ≡ old))
+    → MatchResult s (λ _. (on : List T → Step) → adding (room old) names (items old) w x on ≡ on (items new)) (λ c. (on : List T → Step) → adding (room old) names (items old) w x on ≡ stop c) × (room new ≡ room old)
+pushed (Ok u) (Ok v) P old new names w x e m k p = (λ on. adding_new (room old) names (items old) w x on (items new) e p.1 p.0, p.2)
+pushed (Ok u) (Err c) P old new names w x e m k p = absurd (no_ok u c m)
+  where
+    no_ok : (u : Unit {0}) (c : AssemblyCause) → Err c ≡ Ok u → ⊥
+    no_ok u c q = cc
+pushed (Err y) (Ok v) P old new names w x e m k p = absurd m
+pushed (Err y) (Err c) P old new names w x e m k p = (λ on. adding_full (room old) names (items old) w x on e p.0 ∙ ap stop (sym (k y c m)), ap room p.1)
 
 -- one more in a list of what items stand for
 pub adding_map : {X Y : Type 0} (f : X → Y) (room : ℕ) (names : List (List ℕ)) (xs : List X) (w : List ℕ) (x : X) (on : List Y → Step) → adding room names (map f xs) w (f x) on ≡ adding room names xs w x (λ ys. on (map f ys))

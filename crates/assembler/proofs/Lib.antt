@@ -1,6 +1,6 @@
 pub mod Adding
 pub mod Clips
-pub mod Laying
+pub mod Exits
 pub mod Taking
 pub mod Surveys
 pub mod Leaving

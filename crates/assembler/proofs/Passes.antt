@@ -1,22 +1,27 @@
 -- Both texts surveyed, one after the other.
-use Rattle.std.proofs.Common.{◌≡◌, ℕ, ◌-◌, ◌≤◌, List, [], ◌++◌, map, length, take, replicate, ℤ, pos, Ok, Err, Result, sym, refl, ap, ◌∙◌, subst, arith, length-append}
+use Rattle.std.proofs.Common.{◌≡◌, ℕ, ◌-◌, ◌≤◌, List, [], ◌++◌, map, length, take, replicate, ℤ, pos, Ok, Err, IsErrAnd, Result, MatchResult, sym, refl, ap, ◌∙◌, subst, arith, length-append}
 use Rattle.std.proofs.lemmas.List.{length-map, take_all}
 use Rattle.std.proofs.lemmas.Bool.{le-leb}
 use Rattle.program.specs.declared.assembled.Assembled.{Assembled}
 use Rattle.program.specs.declared.counts.Counts.{Counts}
 use Rattle.program.specs.declared.fault.Fault.{Fault}
+use Rattle.program.specs.declared.fault.Fault.TheVariants as G
+use Rattle.program.specs.declared.fault.Place.TheVariants.{Line}
+use Rattle.program.specs.declared.fault.Text.TheVariants.{Site, Library}
 use Rattle.slots.specs.Items.{items, room}
 use Rattle.slots.specs.declared.list.SlotList.{SlotList}
 use Rattle.program.specs.declared.section.Section.{Section}
 use Rattle.program.specs.declared.section.Section.TheVariants.{Code, Data, Heap}
 use Rattle.syntax.specs.Forms.{Form}
+use Rattle.assembler.specs.declared.lists.Lists.{Lists}
+use Rattle.assembler.specs.declared.tally.LineCause.{LineCause}
 use Rattle.assembler.specs.declared.tally.Tally.{Tally}
 use Rattle.assembler.specs.Assembly.{Assembly, first, second, fitted, linked, made, size}
-use Rattle.assembler.specs.Builds.{Builds, Made}
+use Rattle.assembler.specs.Builds.{Builds, Made, Refuses, Surveys, Tallied}
 use Rattle.assembler.specs.Cells.{all, both, cell, items_in, laid, opening}
 use Rattle.assembler.specs.Marks.{Mark, Entry}
-use Rattle.assembler.specs.Progress.{Puts}
-use Rattle.assembler.specs.Survey.{Survey, done, extent, fresh, opened, survey, surveyed}
+use Rattle.assembler.specs.Progress.{Bounded, KeptBoth, Puts, Small, entries, marks, survey_of, surveyed_to}
+use Rattle.assembler.specs.Survey.{Survey, Surveyed, done, extent, fault, fresh, opened, survey, surveyed}
 use Rattle.assembler.proofs.Sizes.{survey_counts}
 
 module _ (n : ℕ) (site library : List Form) (l u : ℕ) where
@@ -49,15 +54,34 @@ module _ (site library : List Form) (l u : ℕ) (s t : Survey) (e : survey l u 1
   pub texts_taken : ((n : ℕ) → first n site library l u ≡ fitted n site library t) × ((q : Section) → extent t.tally q ≡ length (both q site library))
   texts_taken = (λ n. first_done n site library l u s e ∙ second_done n site library l u s t f, counted)
 
--- from what the two passes promise
-pub taken_both : (site library : List Form) (l u l' u' : ℕ) (m₀ m₁ m₂ : List Mark) (e₀ e₁ e₂ : List Entry) (t₁ t₂ r : Tally)
-    → m₀ ≡ [] → e₀ ≡ [] → done (surveyed t₁ m₁ e₁) ≡ survey l u 1 (surveyed fresh.tally m₀ e₀) site
-    → r ≡ opened t₁ → l' ≡ l → u' ≡ u → done (surveyed t₂ m₂ e₂) ≡ survey l' u' 1 (surveyed r m₁ e₁) library
-    → ((n : ℕ) → first n site library l u ≡ fitted n site library (surveyed t₂ m₂ e₂)) × ((q : Section) → extent t₂ q ≡ length (both q site library))
-taken_both site library l u l' u' m₀ m₁ m₂ e₀ e₁ e₂ t₁ t₂ r a b p c d e q =
-    texts_taken site library l u (surveyed t₁ m₁ e₁) (surveyed t₂ m₂ e₂)
-    (sym (p ∙ ap (λ m. survey l u 1 (surveyed fresh.tally m e₀) site) a ∙ ap (λ v. survey l u 1 (surveyed fresh.tally [] v) site) b))
-    (sym (q ∙ ap (λ k. survey k u' 1 (surveyed r m₁ e₁) library) d ∙ ap (λ k. survey l k 1 (surveyed r m₁ e₁) library) e ∙ ap (λ v. survey l u 1 (surveyed v m₁ e₁) library) c))
+-- the site's lines are refused
+pub refused_first : (site library : List Form) (a b : Lists) (r : Result Tally LineCause) (e : LineCause) (f : Fault) → marks a.labels.now ≡ [] → entries a.units.now ≡ [] → surveyed_to r b ≡ survey (room a.labels.now) (room a.units.now) 1 (survey_of fresh.tally a) site
+    → r ≡ Err e → f ≡ G.Assembly e.cause (Line Site e.line) → (n : ℕ) → Refuses f (first n site library (room a.labels.now) (room a.units.now))
+refused_first site library a b r e f ls us p q k n =
+    let s : survey (room a.labels.now) (room a.units.now) 1 fresh site ≡ fault e.line e.cause = sym (sym (ap (λ v. surveyed_to v b) q) ∙ p ∙ ap (λ m. survey (room a.labels.now) (room a.units.now) 1 (surveyed fresh.tally m (entries a.units.now)) site) ls ∙ ap (λ v. survey (room a.labels.now) (room a.units.now) 1 (surveyed fresh.tally [] v) site) us) in
+    rw (k, first, s) refl
+
+-- the library's lines, after the site's
+module _ (site library : List Form) (a b d : Lists) (t : Tally) (ls : marks a.labels.now ≡ []) (us : entries a.units.now ≡ []) (p : done (survey_of t b) ≡ survey (room a.labels.now) (room a.units.now) 1 (survey_of fresh.tally a) site) (kept : KeptBoth a b) (small : Small t 65536000) where
+  site_taken : survey (room a.labels.now) (room a.units.now) 1 fresh site ≡ done (survey_of t b)
+  site_taken = sym (p ∙ ap (λ m. survey (room a.labels.now) (room a.units.now) 1 (surveyed fresh.tally m (entries a.units.now)) site) ls ∙ ap (λ v. survey (room a.labels.now) (room a.units.now) 1 (surveyed fresh.tally [] v) site) us)
+
+  same_rooms : (x : Surveyed) → x ≡ survey (room b.labels.now) (room b.units.now) 1 (survey_of (opened t) b) library → survey (room a.labels.now) (room a.units.now) 1 (survey_of (opened t) b) library ≡ x
+  same_rooms x q = sym (q ∙ ap (λ k. survey k (room b.units.now) 1 (survey_of (opened t) b) library) kept.labels.room ∙ ap (λ k. survey (room a.labels.now) k 1 (survey_of (opened t) b) library) kept.units.room)
+
+  pub passes : (r : Result Tally LineCause) (s : Result Tally Fault) (P : LineCause → Fault → Type 0) (v : Tally) → v ≡ opened t
+      → surveyed_to r d ≡ survey (room b.labels.now) (room b.units.now) 1 (survey_of v b) library → Bounded v r
+      → MatchResult r (λ x. s ≡ Ok x) (λ e. IsErrAnd s (P e)) → ((e : LineCause) (f : Fault) → P e f → f ≡ G.Assembly e.cause (Line Library e.line))
+      → Surveys site library (room a.labels.now) (room a.units.now) s (marks d.labels.now) (entries d.units.now) × Tallied s
+  passes (Ok x) s P v o q g m k =
+      let h = g 65536000 (subst (λ w. Small w 65536000) (sym o) small) in
+      let e = same_rooms (done (survey_of x d)) (q ∙ ap (λ w. survey (room b.labels.now) (room b.units.now) 1 (survey_of w b) library) o) in
+      subst (λ z. Surveys site library (room a.labels.now) (room a.units.now) z (marks d.labels.now) (entries d.units.now) × Tallied z) (sym m)
+      (texts_taken site library (room a.labels.now) (room a.units.now) (survey_of t b) (survey_of x d) site_taken e, (omega arith, omega arith, omega arith))
+  passes (Err c) (Ok x) P v o q g m k = absurd m
+  passes (Err c) (Err f) P v o q g m k =
+      let e = same_rooms (fault c.line c.cause) (q ∙ ap (λ w. survey (room b.labels.now) (room b.units.now) 1 (survey_of w b) library) o) in
+      (λ n. rw (k c f m, first, site_taken, second, e) refl, tt)
 
 -- all cells of a program are written, in a memory that has room for them
 module _ (n : ℕ) (site library : List Form) (t : Tally) (ls : List Mark) (sized : (q : Section) → extent t q ≡ length (both q site library)) (fits : size t ≤ n) where

@@ -1,22 +1,19 @@
 -- The cells of items.
-use Rattle.std.proofs.Common.{◌≡◌, ℕ, zero, suc, Bool, true, false, cond, List, [], ◌∷◌, ◌++◌, map, replicate, ℤ, pos, Err, sym, refl, ap, ◌∙◌}
+use Rattle.std.proofs.Common.{◌≡◌, ℕ, zero, suc, ◌+◌, ◌<◌, Bool, true, false, cond, List, [], ◌∷◌, ◌++◌, map, get_or, drop, replicate, ℤ, pos, sym, refl, ap, ◌∙◌}
 use Rattle.isa.specs.Table.{number}
 use Rattle.isa.specs.declared.opcode.Opcode.{Opcode}
 use Rattle.isa.specs.declared.opcode.Opcode.TheVariants.{Push, Add, Sub, Mul, Div, Mod, Neg, And, Or, Not, Eq, Ne, Lt, Gt, Le, Ge, Dup, Pop, Swap, Jump, Bf, Bt, Nop, Read, Bprint, Cprint, Iprint, Sprint, Prnln, Load, Store, Loadref, Storeref, Deref, Call, Loadfp, Loadsp, Storefp, Rmem, Fmem, Ret, Halt, Loadpc, Storepc, Storesp, Loadhp, Storehp, Loadhl, Storehl}
 use Rattle.program.specs.declared.section.Section.{Section}
+use Rattle.program.specs.declared.section.Section.TheVariants.{Code, Data, Heap}
 use Rattle.slots.specs.declared.list.SlotList.{SlotList}
-use Rattle.std.proofs.lemmas.List.{map-append}
+use Rattle.std.proofs.lemmas.List.{drop_more, map-append}
+use Rattle.std.specs.List.{flat_map}
 use Rattle.syntax.specs.Cells.{cells}
-use Rattle.syntax.specs.Forms.{Item, value, byte, Form, form}
-use Rattle.syntax.specs.Lines.{lines}
-use Rattle.syntax.specs.Stated.{line_form}
-use Rattle.syntax.specs.declared.statements.LineFault.{LineFault}
-use Rattle.syntax.specs.declared.statements.LineFault.TheVariants as L
-use Rattle.assembler.specs.Assembly.{forms}
-use Rattle.assembler.specs.Cells.{cell, in_cell, items_in, same_section, following_section}
+use Rattle.syntax.specs.Forms.{value, byte, Form, form}
+use Rattle.assembler.specs.Cells.{both, cell, in_cell, items_in, same_section, following_section}
 use Rattle.assembler.specs.Marks.{Mark}
-use Rattle.assembler.specs.Progress.{Puts}
-use Rattle.assembler.proofs.Clips.{puts_as}
+use Rattle.assembler.specs.Progress.{Puts, clipped}
+use Rattle.assembler.proofs.Clips.{left_then, puts_as, puts_then}
 
 -- quoted bytes
 pub cells_bytes : (ls : List Mark) (bs : List ℕ) → map pos bs ≡ map (cell ls) (map byte bs)
@@ -31,20 +28,6 @@ cells_copies ls (suc n) z = ap (λ zs. in_cell z ∷ zs) (cells_copies ls n z)
 pub copies_put : (ls : List Mark) (a b : SlotList ℤ) (n k : ℕ) (v z : ℤ) → Puts a b (replicate n v) → n ≡ k → v ≡ in_cell z → Puts a b (map (cell ls) (replicate k (value z)))
 copies_put ls a b n k v z p e f = puts_as a b (replicate n v) (map (cell ls) (replicate k (value z))) (ap (λ i. replicate i v) e ∙ ap (replicate k) f ∙ cells_copies ls k z) p
 
--- a line that is no statement has no cells, and leaves the section
-pub err_cells : (e : LineFault) (f : Form) → line_form (Err e) ≡ f → cells f ≡ []
-err_cells L.Bytes f e = ap cells (sym e)
-err_cells L.Form f e = ap cells (sym e)
-
-pub err_section : (e : LineFault) (f : Form) (p : Section) → line_form (Err e) ≡ f → p ≡ following_section p f
-err_section L.Bytes f p e = ap (following_section p) e
-err_section L.Form f p e = ap (following_section p) e
-
--- nothing is put, whether it is wanted or not
-pub cond_none : (ls : List Mark) (b : Bool) (is : List Item) → is ≡ [] → [] ≡ map (cell ls) (cond b is [])
-cond_none ls true is e = ap (map (cell ls)) (sym e)
-cond_none ls false is e = refl
-
 -- the items of a section, one line on
 pub items_on : (want p : Section) (f : Form) (fs : List Form) → items_in want p (f ∷ fs) ≡ cond (same_section want p) (cells f) [] ++ items_in want (following_section p f) fs
 items_on want p f fs = go (same_section want p) refl
@@ -53,17 +36,34 @@ items_on want p f fs = go (same_section want p) refl
     go true e = rw (e, items_in) refl
     go false e = rw (e, items_in) refl
 
-pub items_more : (ls : List Mark) (want p q : Section) (b : Bool) (rest line after : List ℕ) → lines rest ≡ line ∷ lines after → b ≡ same_section want p → q ≡ following_section p (form line)
-    → map (cell ls) (items_in want p (forms rest)) ≡ map (cell ls) (cond b (cells (form line)) []) ++ map (cell ls) (items_in want q (forms after))
+pub items_more : (ls : List Mark) (want p q : Section) (b : Bool) (rest : List (List ℕ)) (line : List ℕ) (after : List (List ℕ)) → rest ≡ line ∷ after → b ≡ same_section want p → q ≡ following_section p (form line)
+    → map (cell ls) (items_in want p (map form rest)) ≡ map (cell ls) (cond b (cells (form line)) []) ++ map (cell ls) (items_in want q (map form after))
 items_more ls want p q b rest line after e f g =
     ap (λ vs. map (cell ls) (items_in want p (map form vs))) e
-    ∙ ap (map (cell ls)) (items_on want p (form line) (forms after))
-    ∙ map-append (cell ls) (cond (same_section want p) (cells (form line)) []) (items_in want (following_section p (form line)) (forms after))
-    ∙ ap (λ c. map (cell ls) (cond c (cells (form line)) []) ++ map (cell ls) (items_in want (following_section p (form line)) (forms after))) (sym f)
-    ∙ ap (λ r. map (cell ls) (cond b (cells (form line)) []) ++ map (cell ls) (items_in want r (forms after))) (sym g)
+    ∙ ap (map (cell ls)) (items_on want p (form line) (map form after))
+    ∙ map-append (cell ls) (cond (same_section want p) (cells (form line)) []) (items_in want (following_section p (form line)) (map form after))
+    ∙ ap (λ c. map (cell ls) (cond c (cells (form line)) []) ++ map (cell ls) (items_in want (following_section p (form line)) (map form after))) (sym f)
+    ∙ ap (λ r. map (cell ls) (cond b (cells (form line)) []) ++ map (cell ls) (items_in want r (map form after))) (sym g)
 
-pub items_none : (ls : List Mark) (want p : Section) (rest : List ℕ) → lines rest ≡ [] → map (cell ls) (items_in want p (forms rest)) ≡ []
-items_none ls want p rest e = ap (λ vs. map (cell ls) (items_in want p (map form vs))) e
+-- one section after another
+abbrev pub sections : List Section
+sections = Code ∷ Data ∷ Heap ∷ []
+
+module _ (ls : List Mark) (site library : List Form) where
+  abbrev pub sections_left : ℕ → List ℤ
+  sections_left i = map (cell ls) (flat_map (λ q. both q site library) (drop i sections))
+
+  pub sections_more : (a b m d : SlotList ℤ) (xs : List ℤ) (i : ℕ) (q : Section) → i < 3 → q ≡ get_or sections i q → clipped b (sections_left i) ≡ clipped a xs
+      → Puts b m (map (cell ls) (items_in q Code site)) → Puts m d (map (cell ls) (items_in q Code library)) → clipped d (sections_left (i + 1)) ≡ clipped a xs
+  sections_more a b m d xs i q h e inv p r =
+      let ys = items_in q Code site in
+      let zs = items_in q Code library in
+      let f : sections_left i ≡ map (cell ls) (both q site library) ++ sections_left (i + 1) =
+      ap (λ s. map (cell ls) (flat_map (λ v. both v site library) s)) (drop_more sections i q h)
+      ∙ ap (λ v. map (cell ls) (both v site library ++ flat_map (λ u. both u site library) (drop (i + 1) sections))) (sym e)
+      ∙ map-append (cell ls) (both q site library) (flat_map (λ u. both u site library) (drop (i + 1) sections)) in
+      left_then a b d (map (cell ls) (both q site library)) (sections_left i) xs (sections_left (i + 1)) inv f
+      (puts_as b d (map (cell ls) ys ++ map (cell ls) zs) (map (cell ls) (both q site library)) (sym (map-append (cell ls) ys zs)) (puts_then b m d (map (cell ls) ys) (map (cell ls) zs) p r))
 
 -- an opcode's number is a cell
 pub opcode_cell : (op : Opcode) → pos (number op) ≡ in_cell (pos (number op))

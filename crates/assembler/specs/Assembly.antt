@@ -1,5 +1,5 @@
 -- What two texts assemble to.
-use Rattle.std.specs.Prelude.{ℕ, zero, suc, ◌+◌, ◌-◌, min, true, false, ◌&&◌, List, ◌++◌, map, length, replicate, ℤ, pos, nat_le}
+use Rattle.std.specs.Prelude.{ℕ, ◌+◌, ◌-◌, min, true, false, ◌&&◌, List, ◌++◌, map, length, replicate, ℤ, pos, Some, None, nat_le}
 use Rattle.program.specs.declared.counts.Counts.{Counts}
 use Rattle.program.specs.declared.fault.AssemblyCause.{AssemblyCause}
 use Rattle.program.specs.declared.fault.AssemblyCause.TheVariants.{MemorySize, TextLength, ProgramSize, NoLabel}
@@ -49,8 +49,8 @@ module _ (n : ℕ) (site library : List Form) where
   abbrev pub linked : Survey → List Mark → Assembly
   linked s ls =
       elim (unresolved ls 1 site) [
-        | suc k ↦ refusal NoLabel (Line Site (suc k))
-        | zero ↦ elim (unresolved ls 1 library) [ suc k ↦ refusal NoLabel (Line Library (suc k)) | zero ↦ made s ls ]
+        | Some k ↦ refusal NoLabel (Line Site k)
+        | None ↦ elim (unresolved ls 1 library) [ Some k ↦ refusal NoLabel (Line Library k) | None ↦ made s ls ]
       ]
 
   -- a program that does not fit its memory (10)

@@ -1,5 +1,5 @@
 -- What the passes of the code come to, by what the texts assemble to.
-use Rattle.std.specs.Prelude.{◌≡◌, ℕ, ◌-◌, ◌≤◌, List, [], ◌++◌, length, replicate, ℤ, pos, Some, None, Ok, Err, Option, Result}
+use Rattle.std.specs.Prelude.{◌≡◌, ℕ, ◌-◌, ◌≤◌, List, [], ◌++◌, length, replicate, ℤ, pos, Ok, Err, Result}
 use Rattle.program.specs.Faults as F
 use Rattle.program.specs.declared.counts.Counts.{Counts}
 use Rattle.program.specs.declared.assembled.Assembled.{Assembled}
@@ -30,9 +30,9 @@ module _ (site library : List Form) (label_room unit_room : ℕ) where
   Surveys (Err f) ls us = (n : ℕ) → Refuses f (first n site library label_room unit_room)
 
 -- every name has a label, or the first line with one that has none is refused
-abbrev pub Links : Option Fault → List Form → List Form → List Mark → Type 0
-Links None site library ls = (n : ℕ) (s : Survey) → linked n site library s ls ≡ made n site library s ls
-Links (Some f) site library ls = (n : ℕ) (s : Survey) → Refuses f (linked n site library s ls)
+abbrev pub Links : Result (Unit {0}) Fault → List Form → List Form → List Mark → Type 0
+Links (Ok u) site library ls = (n : ℕ) (s : Survey) → linked n site library s ls ≡ made n site library s ls
+Links (Err f) site library ls = (n : ℕ) (s : Survey) → Refuses f (linked n site library s ls)
 
 -- the program with the cells, labels and units that were written, or the refusal
 abbrev pub Builds : ℕ → Result Assembled Fault → Assembly → List ℤ → List Mark → List Entry → Type 0

@@ -1,5 +1,6 @@
 -- The cells of a program, once its labels have addresses.
-use Rattle.std.specs.Prelude.{ℕ, suc, ◌+◌, ◌^◌, Bool, true, false, List, [], ◌∷◌, ◌++◌, ℤ, pos, Some, None, Option, nat_lt}
+use Rattle.std.specs.Prelude.{ℕ, suc, ◌+◌, ◌^◌, Bool, true, false, List, [], ◌∷◌, ◌++◌, ℤ, pos, Some, None, Option, is_some, unwrap_or, nat_lt}
+use Rattle.std.specs.List.{list_all}
 use Rattle.program.specs.Names.{smalls}
 use Rattle.program.specs.declared.section.Section.{Section}
 use Rattle.program.specs.declared.section.Section.TheVariants.{Code, Data, Heap}
@@ -23,33 +24,23 @@ word n = elim (nat_lt n (2 ^ 32)) [ true ↦ n | false ↦ 0 ]
 abbrev pub laid : Tally → Mark → Mark
 laid t l = mark l.name l.section (word (base t l.section + l.address))
 
--- an address that was found, or 0
-abbrev pub or_zero : Option ℕ → ℕ
-or_zero None = 0
-or_zero (Some a) = a
-
-abbrev pub is_there : Option ℕ → Bool
-is_there None = false
-is_there (Some a) = true
-
 -- a cell: every number and address of a program is in its range
 abbrev pub in_cell : ℤ → ℤ
 in_cell z = elim (cell_range z) [ true ↦ z | false ↦ pos 0 ]
 
 module _ (ls : List Mark) where
-  -- a unit with its entry: the address of the label of its name, which stands in small letters
+  -- a unit with its entry: the address of the label of its name, which stands in small letters; 0 if there is none
   abbrev pub opening : Entry → Entry
-  opening u = entry u.name (or_zero (find (smalls u.name) ls)) u.arguments u.results
+  opening u = entry u.name (unwrap_or (find (smalls u.name) ls) 0) u.arguments u.results
 
   -- has an item's name a label?
   abbrev pub known : Item → Bool
   known (value z) = true
-  known (at w) = is_there (find w ls)
+  known (at w) = is_some (find w ls)
   known (byte c) = true
 
   abbrev pub all_known : List Item → Bool
-  all_known [] = true
-  all_known (i ∷ is) = elim (known i) [ true ↦ all_known is | false ↦ false ]
+  all_known is = list_all known is
 
   -- have all names that a line uses a label?
   abbrev pub resolved : Form → Bool
@@ -57,20 +48,20 @@ module _ (ls : List Mark) where
   resolved unfit = true
   resolved empty = true
   resolved (section p) = true
-  resolved (unit w m r) = is_there (find w ls)
+  resolved (unit w m r) = is_some (find w ls)
   resolved (instruction l op is) = all_known is
   resolved (words l ts) = all_known (items ts)
   resolved (copies l k z) = true
 
-  -- the first line with a name that has no label, or 0; the next line has the number k
-  abbrev pub unresolved : ℕ → List Form → ℕ
-  unresolved k [] = 0
-  unresolved k (f ∷ fs) = elim (resolved f) [ true ↦ unresolved (suc k) fs | false ↦ k ]
+  -- the first line with a name that has no label; the next line has the number k
+  abbrev pub unresolved : ℕ → List Form → Option ℕ
+  unresolved k [] = None
+  unresolved k (f ∷ fs) = elim (resolved f) [ true ↦ unresolved (suc k) fs | false ↦ Some k ]
 
-  -- the cell that an item becomes
+  -- the cell that an item becomes; 0 for a name that no label has
   abbrev pub cell : Item → ℤ
   cell (value z) = in_cell z
-  cell (at w) = in_cell (pos (or_zero (find w ls)))
+  cell (at w) = in_cell (pos (unwrap_or (find w ls) 0))
   cell (byte c) = pos c
 
 -- the section of the lines after a line

@@ -6,7 +6,7 @@ use Rattle.program.specs.declared.fault.Fault.{Fault}
 use Rattle.program.specs.declared.label.Label.{Label}
 use Rattle.program.specs.declared.unit.Unit.{Unit as UnitRecord}
 use Rattle.assembler.specs.Marks.{Mark, Entry, mark_of, entry_of, no_mark, no_entry}
-use Rattle.assembler.specs.Assembly.{Assembly, program, unread, refusal}
+use Rattle.assembler.specs.Assembly.{Assembly, program, unread, refusal, assembled}
 
 -- memory, label slots and unit slots
 pub record Handed : Type 0 where
@@ -41,3 +41,7 @@ Outcome (Ok a) (refusal c at) before after = ⊥
 Outcome (Err f) (program p) before after = ⊥
 Outcome (Err f) (unread c at) before after = (F.refusal f ≡ F.refused (F.assembly_number c) at) × (after ≡ before)
 Outcome (Err f) (refusal c at) before after = (F.refusal f ≡ F.refused (F.assembly_number c) at) × Zeroed before after
+
+-- a call of assemble with these texts, memory and slots answers and leaves what the texts assemble to
+abbrev pub Assembles : List ℕ → List ℕ → Result Assembled Fault → Handed → Handed → Type 0
+Assembles site library r before after = Outcome r (assembled site library (length before.memory) (length before.labels) (length before.units)) before after

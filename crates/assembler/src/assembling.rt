@@ -1,8 +1,7 @@
-ghost use Rattle.assembler.specs.Assembly.{assembled};
-ghost use Rattle.assembler.specs.Handed.{Outcome, handed};
-ghost use Rattle.std.specs.Prelude.{length};
+ghost use Rattle.assembler.specs.Handed.{Assembles, handed};
 
 use crate::fit::assemble_fit;
+use crate::texts::Texts;
 use program::{Assembled, AssemblyCause, Fault, Label, Place, Text, Unit};
 
 // Assembles a site text and a library text into a memory, with slots for labels and for units.
@@ -16,7 +15,7 @@ pub fn assemble(
     labels: &mut [Label],
     units: &mut [Unit],
 ) -> Result<Assembled, Fault>
-    ensures { Outcome result (assembled site.now library.now (length memory.old) (length labels.old) (length units.old)) (handed memory.old labels.old units.old) (handed memory.new labels.new units.new) }
+    ensures { Assembles site.now library.now result (handed memory.old labels.old units.old) (handed memory.new labels.new units.new) }
 {
     let cells = memory.len();
     if cells < 16 || cells > 65536 {
@@ -28,5 +27,5 @@ pub fn assemble(
     if library.len() > 65536 {
         return Err(Fault::Assembly(AssemblyCause::TextLength, Place::Line(Text::Library, 0)));
     }
-    assemble_fit(site, library, memory, labels, units)
+    assemble_fit(Texts { site, library }, memory, labels, units)
 }

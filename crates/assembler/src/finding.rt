@@ -1,6 +1,6 @@
 // Names and the labels that they stand for.
 ghost use Rattle.assembler.specs.Assembly.{forms};
-ghost use Rattle.assembler.specs.Cells.{all_known, is_there, resolved, unresolved};
+ghost use Rattle.assembler.specs.Cells.{all_known, resolved, unresolved};
 ghost use Rattle.assembler.specs.Marks.{find as find_mark, mark_of};
 ghost use Rattle.program.specs.Names.{smalls};
 ghost use Rattle.syntax.specs.Cells.{items, items_of};
@@ -8,25 +8,23 @@ ghost use Rattle.syntax.specs.Forms.{form};
 ghost use Rattle.syntax.specs.Meant.{meant};
 ghost use Rattle.syntax.specs.Stated.{argued, stated};
 ghost use Rattle.syntax.specs.Tokens.{tokens};
-ghost use Rattle.std.specs.Prelude.{◌≡◌, ◌≤◌, map, length};
+ghost use Rattle.std.specs.Prelude.{◌≡◌, ◌≤◌, map, length, is_some};
 
 use program::Label;
-use syntax::{Argument, Statement, Token, next_line, next_token, statement_of};
+use syntax::{Argument, Lines, Statement, Token, Tokens, statement_of};
 
 // The address of the label of that name.
 pub(crate) fn find(labels: &[Label], word: &[u8]) -> Option<u32>
     ensures { result ≡ find_mark (smalls word.now) (map mark_of labels.now) }
 {
-    for label in labels {
-        if label.name.is(word) {
-            return Some(label.address);
-        }
-    }
-    None
+    labels
+        .iter()
+        .find(|label| label.name.is(word))
+        .map(|label| label.address)
 }
 
 fn is_known(labels: &[Label], word: &[u8]) -> bool
-    ensures { result ≡ is_there (find_mark (smalls word.now) (map mark_of labels.now)) }
+    ensures { result ≡ is_some (find_mark (smalls word.now) (map mark_of labels.now)) }
 {
     find(labels, word).is_some()
 }
@@ -45,14 +43,7 @@ fn is_token_known(labels: &[Label], token: Token) -> bool
 fn is_list_known(labels: &[Label], list: &[u8]) -> bool
     ensures { result ≡ all_known (map mark_of labels.now) (items (tokens list.now)) }
 {
-    let mut rest = list;
-    while let Some((token, after)) = next_token(rest) {
-        if !is_token_known(labels, token) {
-            return false;
-        }
-        rest = after;
-    }
-    true
+    Tokens::new(list).all(|token| is_token_known(labels, token))
 }
 
 fn is_argument_known(labels: &[Label], argument: Option<Argument>) -> bool
@@ -85,19 +76,11 @@ fn is_line_resolved(labels: &[Label], line: &[u8]) -> bool
     }
 }
 
-// The first line with a name that has no label, or 0.
-pub(crate) fn unresolved_in(labels: &[Label], text: &[u8]) -> u32
+// The first line with a name that has no label.
+pub(crate) fn unresolved_in(labels: &[Label], text: &[u8]) -> Option<u32>
     requires { length text.now ≤ 65536 }
     ensures { result ≡ unresolved (map mark_of labels.now) 1 (forms text.now) }
 {
-    let mut rest = text;
-    let mut number = 1;
-    while let Some((line, after)) = next_line(rest) {
-        if !is_line_resolved(labels, line) {
-            return number;
-        }
-        number += 1;
-        rest = after;
-    }
-    0
+    let place = Lines::new(text).position(|line| !is_line_resolved(labels, line))?;
+    Some(place as u32 + 1)
 }

@@ -5,6 +5,7 @@ ghost use Rattle.assembler.specs.Progress.{Cleared};
 ghost use Rattle.program.specs.Records.{NoLabel, NoUnit};
 
 use crate::building::build;
+use crate::texts::Texts;
 use program::{Assembled, Fault, Label, Unit};
 use slots::SlotList;
 
@@ -21,30 +22,20 @@ fn zero_all(written: &mut SlotList<i32>, labels: &mut SlotList<Label>, units: &m
 
 // The same, for a memory and texts of lawful sizes.
 pub(crate) fn assemble_fit(
-    site: &[u8],
-    library: &[u8],
+    texts: Texts,
     memory: &mut [i32],
     labels: &mut [Label],
     units: &mut [Unit],
 ) -> Result<Assembled, Fault>
     requires enough_cells { 16 ≤ length memory.old }
     requires few_cells { length memory.old ≤ 65536 }
-    requires short_site { length site.now ≤ 65536 }
-    requires short_library { length library.now ≤ 65536 }
-    ensures { Outcome result (first (length memory.old) (forms site.now) (forms library.now) (min (length labels.old) 512) (min (length units.old) 64)) (handed memory.old labels.old units.old) (handed memory.new labels.new units.new) }
+    ensures { Outcome result (first (length memory.old) (forms texts.entry.site.now) (forms texts.entry.library.now) (min (length labels.old) 512) (min (length units.old) 64)) (handed memory.old labels.old units.old) (handed memory.new labels.new units.new) }
 {
     let cells = memory.len();
     let mut written = SlotList::new(memory, cells);
     let mut label_list = SlotList::new(labels, 512);
     let mut unit_list = SlotList::new(units, 64);
-    match build(
-        cells,
-        site,
-        library,
-        &mut written,
-        &mut label_list,
-        &mut unit_list,
-    ) {
+    match build(cells, texts, &mut written, &mut label_list, &mut unit_list) {
         Ok(program) => {
             written.fill_rest(0);
             label_list.fill_rest(Label::empty());

@@ -1,9 +1,9 @@
 // Sections follow one another in memory: labels get their addresses, and units their entries.
-ghost use Rattle.assembler.specs.Cells.{base, laid, opening, or_zero, word};
-ghost use Rattle.assembler.specs.Marks.{Entry, Mark, entry_of, find as find_mark, mark_of};
+ghost use Rattle.assembler.specs.Cells.{base, laid, opening, word};
+ghost use Rattle.assembler.specs.Marks.{entry_of, find as find_mark, mark_of};
 ghost use Rattle.assembler.specs.Progress.{Kept, Small, entries, marks};
 ghost use Rattle.program.specs.Names.{smalls};
-ghost use Rattle.std.specs.Prelude.{◌≡◌, ◌+◌, ◌<◌, ◌≤◌, map, slice_index_or, slice_set};
+ghost use Rattle.std.specs.Prelude.{◌≡◌, ◌≤◌, map, unwrap_or};
 
 use crate::finding::find;
 use crate::tally::Tally;
@@ -27,11 +27,7 @@ fn base_of(tally: Tally, section: Section) -> usize
 fn address_of(address: usize) -> u32
     ensures { result ≡ word address }
 {
-    if address < 4294967296 {
-        address as u32
-    } else {
-        0
-    }
+    u32::try_from(address).unwrap_or(0)
 }
 
 // A label with its address in memory.
@@ -40,24 +36,7 @@ fn placed(tally: Tally, label: Label) -> Label
     ensures { mark_of result ≡ laid tally (mark_of label) }
 {
     let address = address_of(base_of(tally, label.section) + label.address as usize);
-    Label {
-        name: label.name,
-        section: label.section,
-        address,
-    }
-}
-
-// The label at a place gets its address.
-fn lay_one(tally: Tally, labels: &mut SlotList<Label>, i: usize)
-    requires small { Small tally 1000000000 }
-    requires within { i < labels.old.len }
-    ensures labels { (d : Mark) → marks labels.new ≡ slice_set (marks labels.old) i (laid tally (slice_index_or (marks labels.old) i d)) }
-    ensures kept { Kept labels.old labels.new }
-    ensures len { labels.new.len ≡ labels.old.len }
-{
-    if let Some(label) = labels.get(i) {
-        let _ = labels.replace(i, placed(tally, label));
-    }
+    Label { address, ..label }
 }
 
 // Labels get their addresses in memory.
@@ -67,19 +46,14 @@ pub(crate) fn lay_out(tally: Tally, labels: &mut SlotList<Label>)
     ensures kept { Kept labels.old labels.new }
     ensures len { labels.new.len ≡ labels.old.len }
 {
-    for i in 0..labels.len() {
-        lay_one(tally, labels, i);
-    }
+    labels.change_each(|label| placed(tally, label));
 }
 
 // The address of the label of that name, or 0.
 pub(crate) fn entry_of(labels: &[Label], word: &[u8]) -> u32
-    ensures { result ≡ or_zero (find_mark (smalls word.now) (map mark_of labels.now)) }
+    ensures { result ≡ unwrap_or (find_mark (smalls word.now) (map mark_of labels.now)) 0 }
 {
-    match find(labels, word) {
-        Some(address) => address,
-        None => 0,
-    }
+    find(labels, word).unwrap_or(0)
 }
 
 // A unit with its entry.
@@ -87,24 +61,7 @@ fn opened(labels: &[Label], unit: Unit) -> Unit
     ensures { entry_of result ≡ opening (map mark_of labels.now) (entry_of unit) }
 {
     let entry = entry_of(labels, unit.name.text());
-    Unit {
-        name: unit.name,
-        entry,
-        arguments: unit.arguments,
-        results: unit.results,
-    }
-}
-
-// The unit at a place gets its entry.
-fn open_one(labels: &[Label], units: &mut SlotList<Unit>, i: usize)
-    requires { i < units.old.len }
-    ensures units { (d : Entry) → entries units.new ≡ slice_set (entries units.old) i (opening (map mark_of labels.now) (slice_index_or (entries units.old) i d)) }
-    ensures kept { Kept units.old units.new }
-    ensures len { units.new.len ≡ units.old.len }
-{
-    if let Some(unit) = units.get(i) {
-        let _ = units.replace(i, opened(labels, unit));
-    }
+    Unit { entry, ..unit }
 }
 
 // Units get their entries, the addresses of their labels.
@@ -113,7 +70,5 @@ pub(crate) fn open_units(labels: &[Label], units: &mut SlotList<Unit>)
     ensures kept { Kept units.old units.new }
     ensures len { units.new.len ≡ units.old.len }
 {
-    for i in 0..units.len() {
-        open_one(labels, units, i);
-    }
+    units.change_each(|unit| opened(labels, unit));
 }

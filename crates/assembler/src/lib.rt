@@ -6,10 +6,13 @@ mod building;
 mod finding;
 mod fit;
 mod layout;
+mod lists;
 mod named;
 mod source;
 mod survey;
+mod surveying;
 mod tally;
+mod texts;
 mod writing;
 
 pub use assembling::assemble;

@@ -43,12 +43,7 @@ impl Named for Unit {
 fn is_given<T: Named>(items: &[T], word: &[u8]) -> bool
     ensures { result ≡ has (smalls word.now) (map T.named items.now) }
 {
-    for item in items {
-        if item.is_named(word) {
-            return true;
-        }
-    }
-    false
+    items.iter().any(|item| item.is_named(word))
 }
 
 // One more in a list, unless its name is given already or the list is full.
@@ -63,8 +58,5 @@ pub(crate) fn add<T: Named + Copy>(
     if is_given(list.items(), word) {
         return Err(AssemblyCause::GivenTwice);
     }
-    match list.push(item) {
-        Ok(()) => Ok(()),
-        Err(_) => Err(AssemblyCause::ListFull),
-    }
+    list.push(item).map_err(|_| AssemblyCause::ListFull)
 }

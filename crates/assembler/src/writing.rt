@@ -1,6 +1,8 @@
 // The cells of a program, written one after another.
+// Stays: `written` and `labels` go together as two parameters. A struct of both would hold a `&mut`, and each of its
+// methods would have to promise besides that it is the same one.
 ghost use Rattle.assembler.specs.Assembly.{forms};
-ghost use Rattle.assembler.specs.Cells.{all, both, cell, in_cell, items_in, or_zero, same_section, following_section};
+ghost use Rattle.assembler.specs.Cells.{all, both, cell, in_cell, items_in, same_section, following_section};
 ghost use Rattle.assembler.specs.Marks.{find as find_mark, mark_of};
 ghost use Rattle.assembler.specs.Progress.{Puts};
 ghost use Rattle.decimal.specs.Numbers.{numeral};
@@ -12,14 +14,15 @@ ghost use Rattle.syntax.specs.Forms.{byte, form};
 ghost use Rattle.syntax.specs.Meant.{meant};
 ghost use Rattle.syntax.specs.Stated.{argued, stated};
 ghost use Rattle.syntax.specs.Tokens.{tokens};
-ghost use Rattle.std.specs.Prelude.{◌≡◌, [], ◌∷◌, map, length, replicate, pos, if◌then◌else◌};
+ghost use Rattle.std.specs.Prelude.{◌≡◌, [], ◌∷◌, map, length, replicate, pos, if◌then◌else◌, unwrap_or};
 
 use crate::layout::entry_of;
+use crate::texts::Texts;
 use decimal::cell_number;
 use isa::{Opcode, code_of};
 use program::{Label, Section};
 use slots::SlotList;
-use syntax::{Argument, Statement, Token, cells_of, next_line, next_token, statement_of};
+use syntax::{Argument, Lines, Statement, Token, Tokens, cells_of, statement_of};
 
 // One more cell.
 fn put(written: &mut SlotList<i32>, value: i32)
@@ -50,22 +53,14 @@ fn put_copies(written: &mut SlotList<i32>, count: usize, value: i32)
 fn number_cell(digits: &[u8]) -> i32
     ensures { result ≡ in_cell (numeral digits.now) }
 {
-    match cell_number(digits) {
-        Some(number) => number,
-        None => 0,
-    }
+    cell_number(digits).unwrap_or(0)
 }
 
 // The address of a label, in a cell.
 fn label_cell(labels: &[Label], word: &[u8]) -> i32
-    ensures { result ≡ in_cell (pos (or_zero (find_mark (smalls word.now) (map mark_of labels.now)))) }
+    ensures { result ≡ in_cell (pos (unwrap_or (find_mark (smalls word.now) (map mark_of labels.now)) 0)) }
 {
-    let address = entry_of(labels, word);
-    if address <= 2147483647 {
-        address as i32
-    } else {
-        0
-    }
+    i32::try_from(entry_of(labels, word)).unwrap_or(0)
 }
 
 // A token of a list.
@@ -85,10 +80,8 @@ fn put_token(written: &mut SlotList<i32>, labels: &[Label], token: Token)
 fn put_list(written: &mut SlotList<i32>, labels: &[Label], list: &[u8])
     ensures { Puts written.old written.new (map (cell (map mark_of labels.now)) (items_of_tokens (tokens list.now))) }
 {
-    let mut rest = list;
-    while let Some((token, after)) = next_token(rest) {
+    for token in Tokens::new(list) {
         put_token(written, labels, token);
-        rest = after;
     }
 }
 
@@ -143,17 +136,6 @@ fn section_after(section: Section, statement: Statement) -> Section
     }
 }
 
-fn is_same(want: Section, section: Section) -> bool
-    ensures { result ≡ same_section want section }
-{
-    match (want, section) {
-        (Section::Code, Section::Code) => true,
-        (Section::Data, Section::Data) => true,
-        (Section::Heap, Section::Heap) => true,
-        _ => false,
-    }
-}
-
 // The cells of a statement, if they are wanted.
 fn put_wanted(written: &mut SlotList<i32>, labels: &[Label], wanted: bool, statement: Statement)
     ensures { Puts written.old written.new (map (cell (map mark_of labels.now)) (if wanted then cells (stated statement.entry) else [])) }
@@ -188,33 +170,18 @@ fn put_line(
 fn write_section(written: &mut SlotList<i32>, labels: &[Label], want: Section, text: &[u8])
     ensures { Puts written.old written.new (map (cell (map mark_of labels.now)) (items_in want Code (forms text.now))) }
 {
-    let mut rest = text;
     let mut section = Section::Code;
-    while let Some((line, after)) = next_line(rest) {
-        section = put_line(written, labels, is_same(want, section), section, line);
-        rest = after;
+    for line in Lines::new(text) {
+        section = put_line(written, labels, section == want, section, line);
     }
 }
 
-// The cells of one section of both texts.
-fn write_both(
-    written: &mut SlotList<i32>,
-    labels: &[Label],
-    want: Section,
-    site: &[u8],
-    library: &[u8],
-)
-    ensures { Puts written.old written.new (map (cell (map mark_of labels.now)) (both want (forms site.now) (forms library.now))) }
-{
-    write_section(written, labels, want, site);
-    write_section(written, labels, want, library);
-}
-
 // All cells of a program.
-pub(crate) fn write_all(written: &mut SlotList<i32>, labels: &[Label], site: &[u8], library: &[u8])
-    ensures { Puts written.old written.new (map (cell (map mark_of labels.now)) (all (forms site.now) (forms library.now))) }
+pub(crate) fn write_all(written: &mut SlotList<i32>, labels: &[Label], texts: Texts)
+    ensures { Puts written.old written.new (map (cell (map mark_of labels.now)) (all (forms texts.entry.site.now) (forms texts.entry.library.now))) }
 {
-    write_both(written, labels, Section::Code, site, library);
-    write_both(written, labels, Section::Data, site, library);
-    write_both(written, labels, Section::Heap, site, library);
+    for want in [Section::Code, Section::Data, Section::Heap] {
+        write_section(written, labels, want, texts.site);
+        write_section(written, labels, want, texts.library);
+    }
 }

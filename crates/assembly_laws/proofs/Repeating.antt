@@ -1,5 +1,5 @@
 -- The same texts twice.
-use Rattle.std.proofs.Common.{◌≡◌, ℕ, zero, suc, ◌-◌, ◌≤◌, min, Bool, true, false, leb, List, ◌++◌, map, length, replicate, pos, Ok, Err, Result, sym, refl, ap, ◌∙◌, subst}
+use Rattle.std.proofs.Common.{◌≡◌, ℕ, ◌-◌, ◌≤◌, min, Bool, true, false, leb, List, ◌++◌, map, length, replicate, pos, Some, None, Option, Ok, Err, Result, sym, refl, ap, ◌∙◌, subst}
 use Rattle.std.proofs.lemmas.Bool.{and_from, le-leb}
 use Rattle.program.specs.declared.assembled.Assembled.{Assembled}
 use Rattle.program.specs.declared.fault.AssemblyCause.{AssemblyCause}
@@ -24,9 +24,9 @@ read_if : (b : Bool) (x y : Assembly) → Read x → Read y → Read (elim b [ t
 read_if true x y f g = f
 read_if false x y f g = g
 
-read_found : (k : ℕ) (r : ℕ → Assembly) (x : Assembly) → ((j : ℕ) → Read (r j)) → Read x → Read (elim k [ suc j ↦ r (suc j) | zero ↦ x ])
-read_found zero r x f g = g
-read_found (suc j) r x f g = f (suc j)
+read_found : (k : Option ℕ) (r : ℕ → Assembly) (x : Assembly) → ((j : ℕ) → Read (r j)) → Read x → Read (elim k [ Some j ↦ r j | None ↦ x ])
+read_found None r x f g = g
+read_found (Some j) r x f g = f j
 
 read_surveyed : (x : Surveyed) (on : Survey → Assembly) (bad : ℕ → AssemblyCause → Assembly) → ((s : Survey) → Read (on s)) → ((k : ℕ) (c : AssemblyCause) → Read (bad k c)) → Read (elim x [ done s ↦ on s | fault k c ↦ bad k c ])
 read_surveyed (done s) on bad f g = f s
@@ -35,7 +35,7 @@ read_surveyed (fault k c) on bad f g = g k c
 module _ (site library : List ℕ) (n : ℕ) where
   read_linked : (s : Survey) (ls : List Mark) → Read (linked n (forms site) (forms library) s ls)
   read_linked s ls =
-      read_found (unresolved ls 1 (forms site)) (λ k. refusal NoLabel (Line Site k)) (elim (unresolved ls 1 (forms library)) [ suc k ↦ refusal NoLabel (Line Library (suc k)) | zero ↦ made n (forms site) (forms library) s ls ]) (λ j. tt)
+      read_found (unresolved ls 1 (forms site)) (λ k. refusal NoLabel (Line Site k)) (elim (unresolved ls 1 (forms library)) [ Some k ↦ refusal NoLabel (Line Library k) | None ↦ made n (forms site) (forms library) s ls ]) (λ j. tt)
       (read_found (unresolved ls 1 (forms library)) (λ k. refusal NoLabel (Line Library k)) (made n (forms site) (forms library) s ls) (λ j. tt) tt)
 
   read_fitted : (t : Survey) → Read (fitted n (forms site) (forms library) t)

@@ -1,5 +1,5 @@
 -- Every program that two texts assemble to is sound.
-use Rattle.std.proofs.Common.{◌≡◌, ℕ, zero, suc, ◌+◌, ◌-◌, ◌^◌, ◌<◌, ◌≤◌, min, Bool, true, false, ◌&&◌, leb, List, [], ◌∷◌, ◌++◌, map, length, take, drop, replicate, ℤ, pos, Ok, Err, Result, sym, refl, ap, ◌∙◌, subst, append_assoc, arith, length-append}
+use Rattle.std.proofs.Common.{◌≡◌, ℕ, suc, ◌+◌, ◌-◌, ◌^◌, ◌<◌, ◌≤◌, min, Bool, true, false, ◌&&◌, leb, List, [], ◌∷◌, ◌++◌, map, length, take, drop, replicate, ℤ, pos, Some, None, Option, Ok, Err, Result, sym, refl, ap, ◌∙◌, subst, append_assoc, arith, length-append}
 use Rattle.std.proofs.lemmas.List.{append-nil, drop_at, length-map, map-append, take_at}
 use Rattle.std.proofs.lemmas.Bool.{and_parts, leb-true, lt-ltb}
 use Rattle.program.specs.declared.assembled.Assembled.{Assembled}
@@ -229,9 +229,9 @@ module _ (site library : List ℕ) where
   good_read true x y f g = f refl
   good_read false x y f g = g
 
-  good_found : (k : ℕ) (r : ℕ → Assembly) (x : Assembly) → ((j : ℕ) → Good site library (r j)) → Good site library x → Good site library (elim k [ suc j ↦ r (suc j) | zero ↦ x ])
-  good_found zero r x f g = g
-  good_found (suc j) r x f g = f (suc j)
+  good_found : (k : Option ℕ) (r : ℕ → Assembly) (x : Assembly) → ((j : ℕ) → Good site library (r j)) → Good site library x → Good site library (elim k [ Some j ↦ r j | None ↦ x ])
+  good_found None r x f g = g
+  good_found (Some j) r x f g = f j
 
   good_surveyed : (v x : Surveyed) (on : Survey → Assembly) (bad : ℕ → AssemblyCause → Assembly) → v ≡ x → ((s : Survey) → v ≡ done s → Good site library (on s)) → ((k : ℕ) (c : AssemblyCause) → Good site library (bad k c)) → Good site library (elim x [ done s ↦ on s | fault k c ↦ bad k c ])
   good_surveyed v (done s) on bad e f g = f s e
@@ -239,7 +239,7 @@ module _ (site library : List ℕ) where
 
   good_linked : (n : ℕ) (s : Survey) (ls : List Mark) → Good site library (made n (forms site) (forms library) s ls) → Good site library (linked n (forms site) (forms library) s ls)
   good_linked n s ls g =
-      good_found (unresolved ls 1 (forms site)) (λ k. refusal NoLabel (Line Site k)) (elim (unresolved ls 1 (forms library)) [ suc k ↦ refusal NoLabel (Line Library (suc k)) | zero ↦ made n (forms site) (forms library) s ls ]) (λ j. tt)
+      good_found (unresolved ls 1 (forms site)) (λ k. refusal NoLabel (Line Site k)) (elim (unresolved ls 1 (forms library)) [ Some k ↦ refusal NoLabel (Line Library k) | None ↦ made n (forms site) (forms library) s ls ]) (λ j. tt)
       (good_found (unresolved ls 1 (forms library)) (λ k. refusal NoLabel (Line Library k)) (made n (forms site) (forms library) s ls) (λ j. tt) g)
 
   good_fitted : (n : ℕ) (t : Survey) → (size t.tally ≤ n → Good site library (made n (forms site) (forms library) t (map (laid t.tally) t.labels))) → Good site library (fitted n (forms site) (forms library) t)

@@ -1,7 +1,5 @@
-ghost use Rattle.assembler.specs.Assembly.{assembled};
-ghost use Rattle.assembler.specs.Handed.{Outcome, handed};
+ghost use Rattle.assembler.specs.Handed.{Assembles, handed};
 ghost use Rattle.assembly_laws.specs.Laws.{Upheld};
-ghost use Rattle.std.specs.Prelude.{length};
 
 use assembler::assemble;
 use program::{Assembled, Fault, Label, Unit};
@@ -14,7 +12,7 @@ fn assemble_once(
     labels: &mut [Label],
     units: &mut [Unit],
 ) -> Result<Assembled, Fault>
-    ensures { Outcome result (assembled site.now library.now (length memory.old) (length labels.old) (length units.old)) (handed memory.old labels.old units.old) (handed memory.new labels.new units.new) }
+    ensures { Assembles site.now library.now result (handed memory.old labels.old units.old) (handed memory.new labels.new units.new) }
 {
     assemble(site, library, memory, labels, units)
 }
@@ -28,7 +26,7 @@ pub fn assemble_lawfully(
     labels: &mut [Label],
     units: &mut [Unit],
 ) -> Result<Assembled, Fault>
-    ensures outcome { Outcome result (assembled site.now library.now (length memory.old) (length labels.old) (length units.old)) (handed memory.old labels.old units.old) (handed memory.new labels.new units.new) }
+    ensures outcome { Assembles site.now library.now result (handed memory.old labels.old units.old) (handed memory.new labels.new units.new) }
     ensures upheld { Upheld site.now library.now result (handed memory.new labels.new units.new) }
 {
     assemble_once(site, library, memory, labels, units)

@@ -1,12 +1,12 @@
-ghost use Rattle.assembler.specs.Assembly.{assembled};
-ghost use Rattle.assembler.specs.Handed.{Outcome, handed};
+ghost use Rattle.assembler.specs.Handed.{Assembles, handed};
 ghost use Rattle.assembly_laws.specs.Twice.{Repeats};
-ghost use Rattle.std.specs.Prelude.{length};
 
 use assembler::assemble;
 use program::{Assembled, Fault, Label, Unit};
 
 // The same texts, assembled into one memory and then into the other.
+// Stays: a memory and its slots are three parameters. A struct of them would hold three `&mut`, and the promise would
+// speak of what it left at the exit by position.
 fn assemble_both(
     site: &[u8],
     library: &[u8],
@@ -17,8 +17,8 @@ fn assemble_both(
     other_labels: &mut [Label],
     other_units: &mut [Unit],
 ) -> (Result<Assembled, Fault>, Result<Assembled, Fault>)
-    ensures first { Outcome result.0 (assembled site.now library.now (length memory.old) (length labels.old) (length units.old)) (handed memory.old labels.old units.old) (handed memory.new labels.new units.new) }
-    ensures second { Outcome result.1 (assembled site.now library.now (length other_memory.old) (length other_labels.old) (length other_units.old)) (handed other_memory.old other_labels.old other_units.old) (handed other_memory.new other_labels.new other_units.new) }
+    ensures first { Assembles site.now library.now result.0 (handed memory.old labels.old units.old) (handed memory.new labels.new units.new) }
+    ensures second { Assembles site.now library.now result.1 (handed other_memory.old other_labels.old other_units.old) (handed other_memory.new other_labels.new other_units.new) }
 {
     let first = assemble(site, library, memory, labels, units);
     let second = assemble(site, library, other_memory, other_labels, other_units);
@@ -37,8 +37,8 @@ pub fn assemble_twice(
     other_labels: &mut [Label],
     other_units: &mut [Unit],
 ) -> (Result<Assembled, Fault>, Result<Assembled, Fault>)
-    ensures first { Outcome result.0 (assembled site.now library.now (length memory.old) (length labels.old) (length units.old)) (handed memory.old labels.old units.old) (handed memory.new labels.new units.new) }
-    ensures second { Outcome result.1 (assembled site.now library.now (length other_memory.old) (length other_labels.old) (length other_units.old)) (handed other_memory.old other_labels.old other_units.old) (handed other_memory.new other_labels.new other_units.new) }
+    ensures first { Assembles site.now library.now result.0 (handed memory.old labels.old units.old) (handed memory.new labels.new units.new) }
+    ensures second { Assembles site.now library.now result.1 (handed other_memory.old other_labels.old other_units.old) (handed other_memory.new other_labels.new other_units.new) }
     ensures repeats { Repeats site.now library.now result.0 result.1 (handed memory.old labels.old units.old) (handed memory.new labels.new units.new) (handed other_memory.old other_labels.old other_units.old) (handed other_memory.new other_labels.new other_units.new) }
 {
     assemble_both(

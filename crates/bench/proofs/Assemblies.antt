@@ -1,5 +1,5 @@
 -- What the bench makes of an assembly.
-use Rattle.std.proofs.Common.{◌≡◌, ℕ, zero, suc, Bool, true, false, ◌&&◌, leb, List, [], length, Ok, Err, refl, ap, ◌∙◌}
+use Rattle.std.proofs.Common.{◌≡◌, ℕ, Bool, true, false, ◌&&◌, leb, List, [], length, Some, None, Option, Ok, Err, refl, ap, ◌∙◌}
 use Rattle.program.specs.Faults as F
 use Rattle.program.specs.declared.counts.Counts.{Counts}
 use Rattle.program.specs.declared.assembled.Assembled.{Assembled}
@@ -26,13 +26,13 @@ module _ (n : ℕ) (site library : List Form) where
   sized_linked : (s : Survey) (ls : List Mark) → Sized n (linked n site library s ls)
   sized_linked s ls = go (unresolved ls 1 site) refl
     where
-      rest : (k : ℕ) → unresolved ls 1 site ≡ zero → unresolved ls 1 library ≡ k → Sized n (linked n site library s ls)
-      rest zero e f = rw (e, f, linked) refl
-      rest (suc k) e f = rw (e, f, linked) tt
+      rest : (k : Option ℕ) → unresolved ls 1 site ≡ None → unresolved ls 1 library ≡ k → Sized n (linked n site library s ls)
+      rest None e f = rw (e, f, linked) refl
+      rest (Some k) e f = rw (e, f, linked) tt
 
-      go : (k : ℕ) → unresolved ls 1 site ≡ k → Sized n (linked n site library s ls)
-      go zero e = rest (unresolved ls 1 library) e refl
-      go (suc k) e = rw (e, linked) tt
+      go : (k : Option ℕ) → unresolved ls 1 site ≡ k → Sized n (linked n site library s ls)
+      go None e = rest (unresolved ls 1 library) e refl
+      go (Some k) e = rw (e, linked) tt
 
   sized_fitted : (s : Survey) → Sized n (fitted n site library s)
   sized_fitted s = go (leb (size s.tally) n) refl

@@ -1,13 +1,16 @@
-use Rattle.std.proofs.Common.{sym, ◌∙◌}
-use Rattle.program.specs.Names.{smalls}
-use Rattle.assembler.proofs.Searches.{find_here, find_on, find_none}
+use borrow.Author.Tests.{tests}
+use Rattle.std.proofs.Common.{rules}
+use Rattle.std.proofs.lemmas.Iterator.{YieldsList-from_slice}
+use Rattle.std.proofs.lemmas.Iterator.Search.{find_from_yields_List}
+use Rattle.program.specs.Names.{name_of, same, smalls}
+use Rattle.program.specs.declared.label.Label.{Label}
+use Rattle.assembler.proofs.Searches.{found_address}
 use Rattle.assembler.proofs.finding.find.Goals as goal
 
-pub returns-then-is : goal.returns-then-is
-returns-then-is c = sym (sym c.loop-label.invariant ∙ find_here (smalls c.args.word.now) c.args.labels.now c.loop-label.label-index c.label-item.result c.loop-label-test.true c.label-item.is c.if-is.ensures)
-
-pub loop-label-preserved : goal.loop-label-preserved
-loop-label-preserved c = sym (find_on (smalls c.args.word.now) c.args.labels.now c.loop-label.label-index c.label-item.result c.loop-label-test.true c.label-item.is c.if-is.ensures) ∙ c.loop-label.invariant
-
 pub returns : goal.returns
-returns c = sym (sym c.loop-label.invariant ∙ find_none (smalls c.args.word.now) c.args.labels.now c.loop-label.label-index c.loop-label-test.false)
+returns c =
+    let w = smalls c.args.word.now in
+    let xs = c.args.labels.now in
+    found_address w xs c.find.result c.map.result _
+    (find_from_yields_List (λ (l : Label). same w (name_of l.name)) c.find.new.self _ c.find.result c.find.ensures.ran (YieldsList-from_slice xs cc) (λ x b q k. search (rules, tests)))
+    c.map.ensures.cases (λ x a k. search rules)

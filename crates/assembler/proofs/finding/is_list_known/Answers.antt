@@ -1,18 +1,18 @@
-use Rattle.std.proofs.Common.{map, sym, ap, ◌∙◌}
-use Rattle.syntax.specs.Cells.{items, items_of}
+use borrow.Author.Tests.{tests}
+use Rattle.std.proofs.Common.{map, ◌∙◌, rules}
+use Rattle.std.proofs.lemmas.Iterator.Consumers.{YieldsList-from_first}
+use Rattle.std.proofs.lemmas.Iterator.Search.{all_from_yields_List}
+use Rattle.syntax.specs.Cells.{items_of}
+use Rattle.syntax.specs.Left.{tokens_left}
 use Rattle.syntax.specs.Meant.{meant}
 use Rattle.syntax.specs.Tokens.{tokens}
 use Rattle.assembler.specs.Cells.{all_known}
 use Rattle.assembler.specs.Marks.{mark_of}
-use Rattle.assembler.proofs.Searches.{known_append_yes, known_append_no}
+use Rattle.assembler.proofs.Searches.{known_tokens}
 use Rattle.assembler.proofs.finding.is_list_known.Goals as goal
 
-pub returns-then-not-is_token_known : goal.returns-then-not-is_token_known
-returns-then-not-is_token_known c =
+pub returns : goal.returns
+returns c =
     let ls = map mark_of c.args.labels.now in
-    sym (sym c.loop-token.invariant ∙ ap (λ ts. all_known ls (items ts)) c.in-Some.ensures.tokens.0 ∙ known_append_no ls (items_of (meant c.in-Some.token)) (items (tokens c.in-Some.after.now)) c.if-not-is_token_known.ensures)
-
-pub loop-token-preserved : goal.loop-token-preserved
-loop-token-preserved c =
-    let ls = map mark_of c.args.labels.now in
-    sym (ap (λ ts. all_known ls (items ts)) c.in-Some.ensures.tokens.0 ∙ known_append_yes ls (items_of (meant c.in-Some.token)) (items (tokens c.in-Some.after.now)) c.if-not-is_token_known.ensures) ∙ c.loop-token.invariant
+    all_from_yields_List (λ t. all_known ls (items_of t)) c.all.new.self _ _ c.all.ensures.ran (YieldsList-from_first meant tokens_left (tokens c.args.list.now) c.new.ensures.tokens) (λ x b q k. search (rules, tests))
+    ∙ known_tokens ls (tokens c.args.list.now)

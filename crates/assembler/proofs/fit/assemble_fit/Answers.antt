@@ -10,8 +10,8 @@ use Rattle.assembler.proofs.fit.assemble_fit.Goals as goal
 pub returns-in-Ok : goal.returns-in-Ok
 returns-in-Ok c =
     let n = length c.args.memory.now in
-    let site = forms c.args.site.now in
-    let library = forms c.args.library.now in
+    let site = forms c.args.texts.site.now in
+    let library = forms c.args.texts.library.now in
     let w = c.build.new.written in
     let l = c.build.new.labels in
     let u = c.build.new.units in
@@ -24,8 +24,8 @@ returns-in-Ok c =
 pub returns-in-Err : goal.returns-in-Err
 returns-in-Err c =
     let n = length c.args.memory.now in
-    let site = forms c.args.site.now in
-    let library = forms c.args.library.now in
+    let site = forms c.args.texts.site.now in
+    let library = forms c.args.texts.library.now in
     let w = c.build.new.written in
     let l = c.build.new.labels in
     let u = c.build.new.units in

@@ -6,11 +6,8 @@ use Rattle.assembler.specs.Survey.{extent}
 use Rattle.assembler.proofs.Adding.{added_as}
 use Rattle.assembler.proofs.survey.add_label.Goals as goal
 
-pub returns : goal.returns
-returns c =
+pub returns-clause-added : goal.returns-clause-added
+returns-clause-added c =
     let l = c.args.labels.now in
     let w = smalls c.args.word.now in
-    record {
-      added = added_as mark_of (λ (m : Mark). m.name) (room l) (items l) w _ (mark w c.args.tally.section (extent c.args.tally c.args.tally.section)) (search rules) c.add.result (items c.add.new.list) c.add.ensures.added;
-      kept = c.add.ensures.kept;
-    }
+    added_as mark_of (λ (m : Mark). m.name) (room l) (items l) w _ (mark w c.args.tally.section (extent c.args.tally c.args.tally.section)) (search rules) c.add.result (items c.add.new.list) c.add.ensures.added

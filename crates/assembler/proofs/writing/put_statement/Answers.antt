@@ -1,23 +1,15 @@
-use Rattle.std.proofs.Common.{◌∷◌, map, length, replicate, pos, sym, ap, ◌∙◌, rules}
+use Rattle.std.proofs.Common.{map, length, replicate, sym, ap, ◌∙◌, rules}
 use Rattle.std.proofs.lemmas.List.{length-replicate}
 use Rattle.std.proofs.lemmas.Int.{to_z-of_z}
 use Rattle.decimal.specs.Numbers.{numeral}
-use Rattle.isa.specs.Table.{number}
 use Rattle.syntax.specs.Cells.{cells, times}
 use Rattle.syntax.specs.Forms.{value}
-use Rattle.syntax.specs.Stated.{argued, stated}
+use Rattle.syntax.specs.Stated.{stated}
 use Rattle.assembler.specs.Cells.{cell}
 use Rattle.assembler.specs.Marks.{mark_of}
-use Rattle.assembler.proofs.Clips.{puts_as, puts_none}
-use Rattle.assembler.proofs.Written.{copies_put, opcode_cell}
+use Rattle.assembler.proofs.Clips.{puts_as}
+use Rattle.assembler.proofs.Written.{copies_put}
 use Rattle.assembler.proofs.writing.put_statement.Goals as goal
-
-pub returns-in-Instruction : goal.returns-in-Instruction
-returns-in-Instruction c =
-    let ls = map mark_of c.args.labels.now in
-    let op = c.in-Instruction.op in
-    puts_as c.args.written.now c.put_instruction.new.written (pos (number op) ∷ map (cell ls) (argued c.in-Instruction.argument)) _
-    (ap (λ z. z ∷ map (cell ls) (argued c.in-Instruction.argument)) (opcode_cell op) ∙ sym (ap (λ t. map (cell ls) (cells (stated t))) c.in-Instruction.is)) c.put_instruction.ensures
 
 pub returns-in-Copies : goal.returns-in-Copies
 returns-in-Copies c =
@@ -28,18 +20,3 @@ returns-in-Copies c =
     let n = c.cells_of.ensures ∙ ap (λ t. length (cells (stated t))) c.in-Copies.is ∙ length-replicate k (value z) in
     puts_as c.args.written.now c.put_copies.new.written (map (cell ls) (replicate k (value z))) _ (sym e)
     (copies_put ls c.args.written.now c.put_copies.new.written c.cells_of.result k _ z c.put_copies.ensures n (search (rules, to_z-of_z)))
-
-pub returns-in-Empty : goal.returns-in-Empty
-returns-in-Empty c =
-    let l = c.args.written.now in
-    puts_as l l _ _ (sym (ap (λ t. map (cell (map mark_of c.args.labels.now)) (cells (stated t))) c.in-Empty.is)) (puts_none l)
-
-pub returns-in-Enter : goal.returns-in-Enter
-returns-in-Enter c =
-    let l = c.args.written.now in
-    puts_as l l _ _ (sym (ap (λ t. map (cell (map mark_of c.args.labels.now)) (cells (stated t))) c.in-Enter.is)) (puts_none l)
-
-pub returns-in-Unit : goal.returns-in-Unit
-returns-in-Unit c =
-    let l = c.args.written.now in
-    puts_as l l _ _ (sym (ap (λ t. map (cell (map mark_of c.args.labels.now)) (cells (stated t))) c.in-Unit.is)) (puts_none l)

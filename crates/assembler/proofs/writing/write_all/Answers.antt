@@ -1,24 +1,22 @@
-use Rattle.std.proofs.Common.{◌++◌, map, sym, ap, ◌∙◌}
-use Rattle.std.proofs.lemmas.List.{map-append}
-use Rattle.program.specs.declared.section.Section.TheVariants.{Code, Data, Heap}
+use Rattle.std.proofs.Common.{map, rules}
 use Rattle.assembler.specs.Assembly.{forms}
-use Rattle.assembler.specs.Cells.{both, cell}
+use Rattle.assembler.specs.Cells.{all, cell}
 use Rattle.assembler.specs.Marks.{mark_of}
-use Rattle.assembler.proofs.Clips.{puts_as, puts_then}
+use Rattle.assembler.proofs.Clips.{kept_then}
+use Rattle.assembler.proofs.Written.{sections_more}
 use Rattle.assembler.proofs.writing.write_all.Goals as goal
 
-pub returns : goal.returns
-returns c =
+pub loop-want-preserved : goal.loop-want-preserved
+loop-want-preserved c =
     let ls = map mark_of c.args.labels.now in
-    let site = forms c.args.site.now in
-    let library = forms c.args.library.now in
-    let xs = both Code site library in
-    let ys = both Data site library in
-    let zs = both Heap site library in
+    let site = forms c.args.texts.site.now in
+    let library = forms c.args.texts.library.now in
     let a = c.args.written.now in
-    let b = c.write_both.new.written in
-    let d = c.write_both-2.new.written in
-    let e = c.write_both-3.new.written in
-    puts_as a e (map (cell ls) xs ++ (map (cell ls) ys ++ map (cell ls) zs)) _
-    (ap (λ vs. map (cell ls) xs ++ vs) (sym (map-append (cell ls) ys zs)) ∙ sym (map-append (cell ls) xs (ys ++ zs)))
-    (puts_then a b e (map (cell ls) xs) (map (cell ls) ys ++ map (cell ls) zs) c.write_both.ensures (puts_then b d e (map (cell ls) ys) (map (cell ls) zs) c.write_both-2.ensures c.write_both-3.ensures))
+    let b = c.loop-want.written in
+    let m = c.write_section.new.written in
+    let d = c.write_section-in-loop-want.new.written in
+    let p = c.write_section.ensures in
+    let r = c.write_section-in-loop-want.ensures in (
+      sections_more ls site library a b m d (map (cell ls) (all site library)) c.loop-want.want-index _ c.loop-want-test.true (search rules) c.loop-want.invariant.0 p r,
+      kept_then a b d c.loop-want.invariant.1 (kept_then b m d p.kept r.kept),
+    )
