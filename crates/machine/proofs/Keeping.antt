@@ -12,7 +12,7 @@ use Rattle.arithmetic.specs.declared.operation.Unary.TheVariants as U
 use Rattle.isa.specs.declared.opcode.Opcode.{Opcode}
 use Rattle.isa.specs.declared.opcode.Opcode.TheVariants as O
 use Rattle.instructions.specs.declared.layout.Layout.{Layout}
-use Rattle.instructions.specs.Core.{Core, Next, Act, goes, halts, takes, shows, faults, top, under}
+use Rattle.instructions.specs.Core.{Core, Next, Act, Sound, goes, halts, takes, shows, faults, top, under}
 use Rattle.instructions.specs.Exec.{exec}
 use Rattle.instructions.specs.Moves.{at_pc, popped, pushed, put}
 use Rattle.instructions.specs.Stack.{joins, returns, turns}
@@ -22,7 +22,7 @@ use Rattle.machine.specs.declared.outcome.Outcome.{Outcome}
 use Rattle.machine.specs.Console.{Console, showing}
 use Rattle.machine.specs.Fetch.{fetched}
 use Rattle.machine.specs.Run.{Ran, ran, runs, then}
-use Rattle.machine.specs.Safe.{Safe}
+use Rattle.machine.specs.Safe.{Safe, Kept}
 use Rattle.machine.specs.Step.{Stepped, moved, ended, stopped, step, does, performed, answered, reading}
 
 module _ (lay : Layout) (start : Core) where
@@ -163,7 +163,9 @@ module _ (lay : Layout) (start : Core) where
       go (stopped o d v) t ih = t
 
 -- what a run leaves is safe, as it is what the definition leaves
-pub left_safe : (lay : Layout) (allowance : ℕ) (c d : Core) (w v : Console) (steps : ℕ) (o : Outcome) → ran steps o d v ≡ runs lay 0 allowance c w → lay.code ≤ lay.floor → lay.floor ≤ c.reg.limit → c.reg.limit ≤ c.reg.sp → c.reg.sp ≤ length c.mem → Safe lay c d
-left_safe lay allowance c d w v steps o e a b p q =
-    let s : Safe lay c c = record { ordered = a; floor = b; low = p; high = q; code = refl; long = refl } in
-    subst (λ (x : Ran). Safe lay c x.core) (sym e) (runs_safe lay c 0 allowance c w s)
+pub run_keeps : (lay : Layout) (allowance : ℕ) (c d : Core) (w v : Console) (steps : ℕ) (o : Outcome) → ran steps o d v ≡ runs lay 0 allowance c w → Sound c.reg (length c.mem)
+    → Kept lay c.reg c.mem d.reg d.mem
+run_keeps lay allowance c d w v steps o e s a b =
+    let p : Safe lay c c = record { ordered = a; floor = b; low = s.low; high = s.high; code = refl; long = refl } in
+    let q = subst (λ (x : Ran). Safe lay c x.core) (sym e) (runs_safe lay c 0 allowance c w p) in
+    (q.floor, q.code)

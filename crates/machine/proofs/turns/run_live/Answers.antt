@@ -1,4 +1,5 @@
 use Rattle.std.proofs.Common.{◌+◌, ◌-◌, ◌∙◌, arith, rules}
+use Rattle.machine.proofs.Keeping.{run_keeps}
 use Rattle.machine.proofs.Stepping.{runs_spent, runs_more, runs_ended}
 use Rattle.machine.proofs.turns.run_live.Goals as goal
 
@@ -14,3 +15,9 @@ returns-in-Err-clause-after g c =
 
 pub returns-clause-after : goal.returns-clause-after
 returns-clause-after g c = runs_spent _ c.loop-done.done (c.args.allowance - c.loop-done.done) c.args.allowance _ _ (omega arith) (omega arith) ∙ c.loop-done.invariant.0
+
+pub returns-in-Err-clause-code : goal.returns-in-Err-clause-code
+returns-in-Err-clause-code g c = run_keeps _ c.args.allowance _ _ _ _ _ _ (returns-in-Err-clause-after g c) c.requires.0
+
+pub returns-clause-code : goal.returns-clause-code
+returns-clause-code g c = run_keeps _ c.args.allowance _ _ _ _ _ _ (returns-clause-after g c) c.requires.0
