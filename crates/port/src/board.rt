@@ -10,7 +10,7 @@ pub(crate) const READINGS: usize = 16;
 pub(crate) const BYTES: usize = 64;
 
 // A port with room for 16 readings and 64 bytes. The readings wait in a ring.
-// Stays: no heap on the board, so the shown bytes are a fixed memory and how many of them are written.
+// Stays: the board has no heap, so the shown bytes are a fixed memory and how many of its bytes are written.
 #[derive(Drop)]
 pub struct BoardPort {
     pub(crate) readings: [Reading; READINGS],

@@ -4,7 +4,7 @@ use crate::ring::Ring;
 
 // A port over two lent memories: readings stand as text in places of 12 bytes, which are a ring, and shown bytes stand
 // in the other memory.
-// Stays: no heap on the device, so the shown bytes are a lent memory and how many of them are written.
+// Stays: the device has no heap, so the shown bytes are a lent memory and how many of its bytes are written.
 #[derive(Drop)]
 pub struct ServicePort<'a> {
     pub(crate) places: &'a mut [u8],

@@ -37,8 +37,7 @@ impl ServicePort<'_> {
     }
 }
 
-// Stays: the two ports are one ring and one row of bytes each, but this one also promises of each call which bytes of
-// the two lent memories it changes, and a generic port could not say it.
+// Stays: a port generic in its memories could not promise which bytes of the lent ones a call changes, as this does.
 impl<'a> Port for ServicePort<'a> {
     ghost meaning = { in_service };
 

@@ -256,8 +256,8 @@ fn write_cells(out: &mut String, memory: &[i32]) -> anyhow::Result<()> {
     Ok(())
 }
 
-// The name of two texts and what they assemble to: the counts, the cells and the slots, or the refusal and its line. What stood in memory
-// and slots before is gone after.
+// The name of two texts and what they assemble to: the counts, the cells and the slots, or the refusal and its line.
+// What stood in memory and slots before is gone after.
 pub(crate) fn text_answer(heap: Global, text: &TextPair) -> anyhow::Result<String> {
     let mut memory = [7; 32];
     let mut labels = [Label {

@@ -438,6 +438,7 @@ fn write_shown<P: Port>(out: &mut String, port: &P) -> anyhow::Result<()> {
 }
 
 // Runs a machine for so many steps at most, and answers what came of it.
+// Stays: machine, memory and port are handed on apart, since one machine is also run over other memories (lengths).
 pub(crate) fn run_text<P: Port>(
     heap: Global,
     machine: &mut Machine,

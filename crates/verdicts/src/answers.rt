@@ -56,6 +56,7 @@ fn write_visits(out: &mut String, visits: &[u32]) -> anyhow::Result<()> {
 }
 
 // Checks a program, and writes the answer and what the tables hold after it.
+// Stays: memory, units and both tables are handed on apart, since each is also handed in too short, one at a time.
 pub(crate) fn write_check(
     out: &mut String,
     program: Assembled,
@@ -80,6 +81,7 @@ pub(crate) fn write_check(
 }
 
 // Runs a machine for 100 steps at most, and writes the outcome.
+// Stays: shared with the trials it would be public in bench, and had to promise all that a run promises.
 fn write_run(out: &mut String, machine: &mut Machine, memory: &mut [i32]) -> anyhow::Result<()> {
     match run(machine, memory, &mut BoardPort::new(), 100) {
         Ok(report) => {
