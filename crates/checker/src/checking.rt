@@ -37,6 +37,13 @@ fn explore(program: &Coded, plan: &mut [Option<Planned>], visits: &mut [u32]) ->
     work.drain()
 }
 
+// Makes every number 0.
+fn zero(visits: &mut [u32])
+    ensures { visits.new ≡ replicate (length visits.old) 0 }
+{
+    visits.fill(0);
+}
+
 fn refuse(program: Assembled, cause: CheckCause, place: Place) -> Refused<Assembled>
     ensures { (result.program ≡ program) × (result.fault ≡ Check cause place) }
 {
@@ -72,7 +79,7 @@ pub fn check(
     };
     plan.fill(None);
     let answer = explore(&coded, plan, visits);
-    visits.fill(0);
+    zero(visits);
     match answer {
         Ok(()) => {
             unmark(plan);

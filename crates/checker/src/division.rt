@@ -81,6 +81,7 @@ impl<'a, 's> Work<'a, 's> {
         }
     }
 
+    // The place that the table has for an address.
     pub(crate) fn place_at(&self, a: usize) -> Option<Planned>
         requires { a < length self.now.plan.now }
         ensures { result ≡ slice_index_or (places self.now) a None }

@@ -113,7 +113,7 @@ fn fork(address: u32, depth: u16, i: Instruction) -> Result<Next, CheckCause>
     Ok(Next::Fork(taken, next))
 }
 
-impl<'a> Coded<'a> {
+impl Coded<'_> {
     // The opcode of the whole instruction at an address of the code.
     pub fn opcode_at(&self, address: usize) -> Option<Opcode>
         ensures { result ≡ opcode_in self.now.code.now address }

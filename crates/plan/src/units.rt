@@ -11,7 +11,7 @@ use crate::planned::Planned;
 use isa::{Opcode, instruction_at};
 use program::Unit;
 
-impl<'a> Coded<'a> {
+impl Coded<'_> {
     // The unit whose entry a cell holds.
     pub(crate) fn unit_at(&self, start: i32) -> Option<Unit>
         ensures { MatchOption result ((k : ℕ) (v : UnitRecord) → Listed self.now.units.now k v → start ≢ pos v.entry) (λ v. (k : ℕ) × Listed self.now.units.now k v × (start ≡ pos v.entry)) }

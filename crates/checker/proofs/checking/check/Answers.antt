@@ -42,7 +42,7 @@ returns-in-Ok c =
       length_is = c.if-memory-counts.false ∙ ap (λ (x : Counts). x.cells) s;
       kept = k;
       least = l;
-      zeros = c.fill-2.ensures.after (λ y e. e) ∙ ap (λ (z : ℕ). replicate z 0) q;
+      zeros = c.zero.ensures ∙ ap (λ (z : ℕ). replicate z 0) q;
       laws = laws (record { counts = c.args.program.counts; cells = c.args.memory.now; units = c.args.units.now }) (plan_of c.unmark.new.plan) l.lawful;
     }
 
@@ -68,6 +68,6 @@ returns-in-Err c =
         due = due;
         none = λ o law. due_not P o law c.in-Err.finding.cause c.in-Err.finding.address due;
         unset = c.fill-in-Err.ensures.after (λ y e. search rules) ∙ ap (λ (z : ℕ). replicate z None) k;
-        zeros = c.fill-2.ensures.after (λ y e. e) ∙ ap (λ (z : ℕ). replicate z 0) q;
+        zeros = c.zero.ensures ∙ ap (λ (z : ℕ). replicate z 0) q;
       })),
     )
