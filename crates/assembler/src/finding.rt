@@ -46,11 +46,11 @@ fn is_list_known(labels: &[Label], list: &[u8]) -> bool
     Tokens::new(list).all(|token| is_token_known(labels, token))
 }
 
-fn is_argument_known(labels: &[Label], argument: Argument) -> bool
+fn is_argument_known(labels: &[Label], argument: Option<Argument>) -> bool
     ensures { result ≡ all_known (map mark_of labels.now) (argued argument.entry) }
 {
     match argument {
-        Argument::Label(name) => is_known(labels, name),
+        Some(Argument::Label(name)) => is_known(labels, name),
         _ => true,
     }
 }

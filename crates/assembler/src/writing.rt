@@ -86,17 +86,22 @@ fn put_list(written: &mut SlotList<i32>, labels: &[Label], list: &[u8])
 }
 
 // The argument of an instruction.
-fn put_argument(written: &mut SlotList<i32>, labels: &[Label], argument: Argument)
+fn put_argument(written: &mut SlotList<i32>, labels: &[Label], argument: Option<Argument>)
     ensures { Puts written.old written.new (map (cell (map mark_of labels.now)) (argued argument.entry)) }
 {
     match argument {
-        Argument::Absent => (),
-        Argument::Number(digits) => put(written, number_cell(digits)),
-        Argument::Label(name) => put(written, label_cell(labels, name)),
+        None => (),
+        Some(Argument::Number(digits)) => put(written, number_cell(digits)),
+        Some(Argument::Label(name)) => put(written, label_cell(labels, name)),
     }
 }
 
-fn put_instruction(written: &mut SlotList<i32>, labels: &[Label], op: Opcode, argument: Argument)
+fn put_instruction(
+    written: &mut SlotList<i32>,
+    labels: &[Label],
+    op: Opcode,
+    argument: Option<Argument>,
+)
     ensures { Puts written.old written.new (pos (number op) ∷ map (cell (map mark_of labels.now)) (argued argument.entry)) }
 {
     put(written, code_of(op));

@@ -1,6 +1,6 @@
 -- No line gives a name of more than 31 bytes or takes more than 1,000 cells.
-use Rattle.std.proofs.Common.{◌≡◌, ℕ, zero, suc, ◌≤◌, Bool, true, false, ◌&&◌, eqb, leb, List, [], ◌∷◌, length, ℤ, pos, negsuc, Some, None, codes, Option, refl, arith}
-use Rattle.std.proofs.lemmas.List.{length-map, length-replicate}
+use Rattle.std.proofs.Common.{◌≡◌, ℕ, zero, suc, ◌≤◌, Bool, true, false, ◌&&◌, leb, List, [], ◌∷◌, length, ℤ, pos, negsuc, Some, None, codes, Option, refl, arith}
+use Rattle.std.proofs.lemmas.List.{length-replicate}
 use Rattle.std.proofs.lemmas.List.Sums.{sum_by-cons}
 use Rattle.std.proofs.lemmas.Bool.{and_parts, leb-true}
 use Rattle.program.specs.Names.{same}
@@ -9,82 +9,32 @@ use Rattle.isa.specs.Table.{named, operand}
 use Rattle.isa.specs.declared.opcode.Opcode.{Opcode}
 use Rattle.isa.specs.declared.opcode.Operand.{Operand}
 use Rattle.isa.specs.declared.opcode.Operand.TheVariants.{Absent, Value, Target, Count, Number}
-use Rattle.syntax.specs.Bytes.{starts, comment, blank, continues, front, after, every, plain}
-use Rattle.syntax.specs.Tokens.{Tok, name, number, character, text, sign, Read, word, token_of_bytes, quoted, closed, figures, not_quote, unblanked, next_read, tokens_by, tokens}
+use Rattle.syntax.specs.Bytes.{every, plain}
+use Rattle.syntax.specs.Tokens.{Tok, name, number, character, text, sign, Read, next_read, tokens_by, tokens}
 use Rattle.syntax.specs.Forms.{Item, value, at, Form, foul, unfit, empty, section, unit, instruction, words, copies, ended, is_sign_token, is_dup_token, then_name, then_number, then_sign, then_further, unit_form, section_of_name, directive_of, is_list, listed, copies_form, data_form, then_argument, instruction_form, on_value, on_number, on_name, operation, labelled, spelled, form}
 use Rattle.syntax.specs.Cells.{times, span, spans}
 use Rattle.syntax.specs.Limits.{ShortLabel, Limited}
 use Rattle.syntax.proofs.Listed.{items_span}
-use Rattle.syntax.proofs.Tokened.{next_span}
-
-abbrev ShortTok : Tok → Type 0
-ShortTok (name w) = length w ≤ 31
-ShortTok (number z) = Unit {0}
-ShortTok (character c) = Unit {0}
-ShortTok (text s) = Unit {0}
-ShortTok (sign c) = Unit {0}
+use Rattle.syntax.proofs.Tokened.{ShortTok, next_fair}
 
 abbrev AllShort : List Tok → Type 0
 AllShort [] = Unit {0}
 AllShort (t ∷ ts) = ShortTok t × AllShort ts
 
-word_short : (c : ℕ) (w : List ℕ) → ShortTok (word c w)
-word_short c w = go (leb (length w) 31) refl
+by_small : (k : ℕ) (bs : List ℕ) → AllShort (tokens_by k bs) × (spans (tokens_by k bs) ≤ length bs)
+by_small zero bs = (tt, omega arith)
+by_small (suc k) bs = go (next_read bs) refl (by_small k)
   where
-    go : (b : Bool) → leb (length w) 31 ≡ b → ShortTok (word c w)
-    go true e = rw (e, word) (rw length-map (leb-true (length w) 31 e))
-    go false e = rw (e, word) tt
-
-quoted_short : (cs : List ℕ) → ShortTok (quoted cs).token
-quoted_short [] = tt
-quoted_short (c ∷ []) = tt
-quoted_short (c ∷ d ∷ cs) = go (eqb d 39) refl
-  where
-    go : (b : Bool) → eqb d 39 ≡ b → ShortTok (quoted (c ∷ d ∷ cs)).token
-    go true e = rw (e, quoted) tt
-    go false e = rw (e, quoted) tt
-
-closed_short : (all body zs : List ℕ) → ShortTok (closed all body zs).token
-closed_short all body [] = tt
-closed_short all body (z ∷ zs) = tt
-
-token_short : (c : ℕ) (cs : List ℕ) → ShortTok (token_of_bytes c cs).token
-token_short c cs = go (starts c) (figures c cs) (eqb c 39) (eqb c 34) refl refl refl refl
-  where
-    go : (a b d q : Bool) → starts c ≡ a → figures c cs ≡ b → eqb c 39 ≡ d → eqb c 34 ≡ q → ShortTok (token_of_bytes c cs).token
-    go true b d q e f g h = rw (e, token_of_bytes) (word_short c (c ∷ front continues cs))
-    go false true d q e f g h = rw (e, f, token_of_bytes) tt
-    go false false true q e f g h = rw (e, f, g, token_of_bytes) (quoted_short cs)
-    go false false false true e f g h = rw (e, f, g, h, token_of_bytes) (closed_short cs (front not_quote cs) (after not_quote cs))
-    go false false false false e f g h = rw (e, f, g, h, token_of_bytes) tt
-
-unblanked_short : (xs : List ℕ) (r : Read) → unblanked xs ≡ Some r → ShortTok r.token
-unblanked_short [] r e = let z : ◌≡◌ {A = ℕ} 0 1 = cc in absurd (omega arith)
-unblanked_short (c ∷ cs) r e = go (comment c) refl
-  where
-    go : (b : Bool) → comment c ≡ b → ShortTok r.token
-    go true f = let k : unblanked (c ∷ cs) ≡ None = rw (f, unblanked) refl in let z : ◌≡◌ {A = ℕ} 0 1 = cc in absurd (omega arith)
-    go false f = let k : unblanked (c ∷ cs) ≡ Some (token_of_bytes c cs) = rw (f, unblanked) refl in let z : r ≡ token_of_bytes c cs = cc in rw z (token_short c cs)
-
-by_short : (k : ℕ) (bs : List ℕ) → AllShort (tokens_by k bs)
-by_short zero bs = tt
-by_short (suc k) bs = go (next_read bs) refl (by_short k)
-  where
-    go : (o : Option Read) → next_read bs ≡ o → ((cs : List ℕ) → AllShort (tokens_by k cs)) → AllShort (tokens_by (suc k) bs)
-    go None e ih = rw (e, tokens_by) tt
-    go (Some r) e ih = rw (e, tokens_by) (unblanked_short (after blank bs) r e, ih r.rest)
-
-by_spans : (k : ℕ) (bs : List ℕ) → spans (tokens_by k bs) ≤ length bs
-by_spans zero bs = omega arith
-by_spans (suc k) bs = go (next_read bs) refl (by_spans k)
-  where
-    go : (o : Option Read) → next_read bs ≡ o → ((cs : List ℕ) → spans (tokens_by k cs) ≤ length cs) → spans (tokens_by (suc k) bs) ≤ length bs
-    go None e ih = rw (e, tokens_by) (omega arith)
-    go (Some r) e ih = rw (e, tokens_by, sum_by-cons span) (omega (arith, next_span bs r e, ih r.rest))
+    go : (o : Option Read) → next_read bs ≡ o → ((cs : List ℕ) → AllShort (tokens_by k cs) × (spans (tokens_by k cs) ≤ length cs)) → AllShort (tokens_by (suc k) bs) × (spans (tokens_by (suc k) bs) ≤ length bs)
+    go None e ih = rw (e, tokens_by) (tt, omega arith)
+    go (Some r) e ih =
+        let f = next_fair bs r e in
+        let h = ih r.rest in
+        rw (e, tokens_by, sum_by-cons span) ((f.2, h.0), omega (arith, f.1, h.1))
 
 -- the tokens of a line take at most as many cells as it has bytes
 pub spans_le : (bs : List ℕ) → spans (tokens bs) ≤ length bs
-spans_le bs = by_spans (length bs) bs
+spans_le bs = (by_small (length bs) bs).1
 
 -- tokens with short names, which take at most 255 cells
 abbrev Small : List Tok → Type 0
@@ -133,12 +83,7 @@ then_sign_short d (t ∷ ts) k a h = go (is_sign_token d t) refl
     go false e = rw (e, then_sign) tt
 
 then_further_short : (ts : List Tok) (k : ℤ → List Tok → Form) → Small ts → ((z : ℤ) (us : List Tok) → Small us → Modest (k z us)) → Modest (then_further ts k)
-then_further_short [] k a h = tt
-then_further_short (t ∷ ts) k a h = go (is_sign_token 44 t) refl
-  where
-    go : (b : Bool) → is_sign_token 44 t ≡ b → Modest (then_further (t ∷ ts) k)
-    go true e = rw (e, then_further) (then_number_short ts k (later t ts a) h)
-    go false e = rw (e, then_further) tt
+then_further_short ts k a h = then_sign_short 44 ts _ a (λ us b. then_number_short us k b h)
 
 unit_short : (ts : List Tok) → Small ts → Modest (unit_form ts)
 unit_short ts a =
@@ -253,5 +198,5 @@ limited bs = go (leb (length bs) 255 && every plain bs) refl
     go : (b : Bool) → (leb (length bs) 255 && every plain bs) ≡ b → Limited (form bs)
     go true e =
         let h : length bs ≤ 255 = leb-true (length bs) 255 (and_parts (leb (length bs) 255) (every plain bs) e).0 in
-        rw (e, form) (modest_limited (spelled (tokens bs)) (spelled_short (tokens bs) (by_short (length bs) bs, omega (arith, spans_le bs))))
+        rw (e, form) (modest_limited (spelled (tokens bs)) (spelled_short (tokens bs) ((by_small (length bs) bs).0, omega (arith, spans_le bs))))
     go false e = rw (e, form) (modest_limited foul tt)

@@ -17,18 +17,6 @@ lines_first (c ∷ d ∷ ds) h = go (eqb c 10) refl (lines_first (d ∷ ds) (ome
     go true e ih = rw (e, lines, front, after) refl
     go false e ih = rw (e, lines, front, after) (ap (onto c) ih)
 
-pub lines_cut : (xs line rest : List ℕ) → 0 < length xs → line ≡ front not_end xs → rest ≡ after not_end xs → lines xs ≡ line ∷ lines (drop 1 rest)
-lines_cut xs line rest h p q = rw (p, q) (lines_first xs h)
-
-pub lines_last : (xs line rest : List ℕ) → 0 < length xs → line ≡ front not_end xs → rest ≡ after not_end xs → length rest ≤ 0 → lines xs ≡ line ∷ lines rest
-lines_last xs line [] h p q e = lines_cut xs line [] h p q
-lines_last xs line (r ∷ rs) h p q e = absurd (omega arith)
-
--- nothing after the last line
-pub rest_last : (rest : List ℕ) → length rest ≤ 0 → rest ≡ drop 1 rest
-rest_last [] h = refl
-rest_last (r ∷ rs) h = absurd (omega arith)
-
 -- a text has at most as many lines as bytes
 pub lines_count : (xs : List ℕ) → length (lines xs) ≤ length xs
 lines_count [] = omega arith

@@ -1,5 +1,4 @@
 pub mod Runs
-pub mod Firsts
 pub mod Cuts
 pub mod Counting
 pub mod Tokened

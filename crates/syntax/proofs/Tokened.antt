@@ -1,52 +1,83 @@
 -- The tokens of a line: the first, then those of the rest.
 use Rattle.std.proofs.Common.{◌≡◌, ℕ, zero, suc, ◌+◌, ◌<◌, ◌≤◌, Bool, true, false, eqb, leb, List, [], ◌∷◌, length, Some, None, Option, sym, refl, ap, ◌∙◌, arith, MatchOption}
+use Rattle.std.proofs.lemmas.Bool.{leb-true}
+use Rattle.std.proofs.lemmas.List.{length-map}
+use Rattle.std.proofs.lemmas.Option.{none-some}
 use Rattle.decimal.specs.Numbers.{digit}
 use Rattle.syntax.specs.Bytes.{starts, comment, blank, continues, front, after}
-use Rattle.syntax.specs.Tokens.{Tok, Read, read, word, token_of_bytes, quoted, closed, figures, not_quote, unblanked, next_read, tokens_by, tokens}
+use Rattle.syntax.specs.Tokens.{Tok, name, number, character, text, sign, Read, read, word, token_of_bytes, quoted, closed, figures, not_quote, unblanked, next_read, tokens_by, tokens}
 use Rattle.syntax.specs.Cells.{span}
 use Rattle.syntax.proofs.Runs.{front_at_yes, front_at_no, after_at_yes, after_at_no}
 
-after_le : (p : ℕ → Bool) (xs : List ℕ) → length (after p xs) ≤ length xs
-after_le p [] = omega arith
-after_le p (c ∷ cs) = go (p c) refl (after_le p cs)
+-- a name of at most 31 bytes
+abbrev pub ShortTok : Tok → Type 0
+ShortTok (name w) = length w ≤ 31
+ShortTok (number z) = Unit {0}
+ShortTok (character c) = Unit {0}
+ShortTok (text s) = Unit {0}
+ShortTok (sign c) = Unit {0}
+
+-- read where n bytes follow the first: the rest is among them, the token takes no more cells than bytes, and it is short
+abbrev Fair : ℕ → Read → Type 0
+Fair n r = (length r.rest ≤ n) × (span r.token + length r.rest ≤ suc n) × ShortTok r.token
+
+front_le : (p : ℕ → Bool) (xs : List ℕ) → length (front p xs) + length (after p xs) ≤ length xs
+front_le p [] = omega arith
+front_le p (c ∷ cs) = go (p c) refl (front_le p cs)
   where
-    go : (b : Bool) → p c ≡ b → length (after p cs) ≤ length cs → length (after p (c ∷ cs)) ≤ length (c ∷ cs)
-    go true e ih = rw (after_at_yes p c cs e) (omega arith)
-    go false e ih = rw (after_at_no p c cs e) (omega arith)
+    go : (b : Bool) → p c ≡ b → length (front p cs) + length (after p cs) ≤ length cs → length (front p (c ∷ cs)) + length (after p (c ∷ cs)) ≤ length (c ∷ cs)
+    go true e ih = rw (front_at_yes p c cs e, after_at_yes p c cs e) (omega arith)
+    go false e ih = rw (front_at_no p c cs e, after_at_no p c cs e) (omega arith)
 
-quoted_le : (cs : List ℕ) → length (quoted cs).rest ≤ length cs
-quoted_le [] = omega arith
-quoted_le (c ∷ []) = omega arith
-quoted_le (c ∷ d ∷ cs) = go (eqb d 39) refl
+word_fair : (c : ℕ) (w : List ℕ) → (span (word c w) ≤ 1) × ShortTok (word c w)
+word_fair c w = go (leb (length w) 31) refl
   where
-    go : (b : Bool) → eqb d 39 ≡ b → length (quoted (c ∷ d ∷ cs)).rest ≤ length (c ∷ d ∷ cs)
-    go true e = rw (e, quoted) (omega arith)
-    go false e = rw (e, quoted) (omega arith)
+    go : (b : Bool) → leb (length w) 31 ≡ b → (span (word c w) ≤ 1) × ShortTok (word c w)
+    go true e = rw (e, word) (omega arith, rw length-map (leb-true (length w) 31 e))
+    go false e = rw (e, word) (omega arith, tt)
 
-closed_le : (all body zs : List ℕ) → length zs ≤ length all → length (closed all body zs).rest ≤ length all
-closed_le all body [] h = omega arith
-closed_le all body (z ∷ zs) h = omega arith
-
-token_le : (c : ℕ) (cs : List ℕ) → length (token_of_bytes c cs).rest ≤ length cs
-token_le c cs = go (starts c) (figures c cs) (eqb c 39) (eqb c 34) refl refl refl refl
+quoted_fair : (cs : List ℕ) → Fair (length cs) (quoted cs)
+quoted_fair [] = (omega arith, omega arith, tt)
+quoted_fair (c ∷ []) = (omega arith, omega arith, tt)
+quoted_fair (c ∷ d ∷ cs) = go (eqb d 39) refl
   where
-    go : (a b d q : Bool) → starts c ≡ a → figures c cs ≡ b → eqb c 39 ≡ d → eqb c 34 ≡ q → length (token_of_bytes c cs).rest ≤ length cs
-    go true b d q e f g h = rw (e, token_of_bytes) (after_le continues cs)
-    go false true d q e f g h = rw (e, f, token_of_bytes) (after_le digit cs)
-    go false false true q e f g h = rw (e, f, g, token_of_bytes) (quoted_le cs)
-    go false false false true e f g h = rw (e, f, g, h, token_of_bytes) (closed_le cs (front not_quote cs) (after not_quote cs) (after_le not_quote cs))
-    go false false false false e f g h = rw (e, f, g, h, token_of_bytes) (omega arith)
+    go : (b : Bool) → eqb d 39 ≡ b → Fair (length (c ∷ d ∷ cs)) (quoted (c ∷ d ∷ cs))
+    go true e = rw (e, quoted) (omega arith, omega arith, tt)
+    go false e = rw (e, quoted) (omega arith, omega arith, tt)
 
-unblanked_lt : (xs : List ℕ) (r : Read) → unblanked xs ≡ Some r → length r.rest < length xs
-unblanked_lt [] r e = let z : ◌≡◌ {A = ℕ} 0 1 = cc in absurd (omega arith)
-unblanked_lt (c ∷ cs) r e = go (comment c) refl
+closed_fair : (all body zs : List ℕ) → length body + length zs ≤ length all → Fair (length all) (closed all body zs)
+closed_fair all body [] h = (omega arith, omega arith, tt)
+closed_fair all body (z ∷ zs) h = (omega arith, omega arith, tt)
+
+token_fair : (c : ℕ) (cs : List ℕ) → Fair (length cs) (token_of_bytes c cs)
+token_fair c cs = go (starts c) (figures c cs) (eqb c 39) (eqb c 34) refl refl refl refl
   where
-    go : (b : Bool) → comment c ≡ b → length r.rest < length (c ∷ cs)
-    go true f = let k : unblanked (c ∷ cs) ≡ None = rw (f, unblanked) refl in let z : ◌≡◌ {A = ℕ} 0 1 = cc in absurd (omega arith)
-    go false f = let k : unblanked (c ∷ cs) ≡ Some (token_of_bytes c cs) = rw (f, unblanked) refl in let z : r ≡ token_of_bytes c cs = cc in omega (arith, token_le c cs, ap (λ (x : Read). length x.rest) z)
+    go : (a b d q : Bool) → starts c ≡ a → figures c cs ≡ b → eqb c 39 ≡ d → eqb c 34 ≡ q → Fair (length cs) (token_of_bytes c cs)
+    go true b d q e f g h =
+        let w = word_fair c (c ∷ front continues cs) in
+        rw (e, token_of_bytes) (omega (arith, front_le continues cs), omega (arith, front_le continues cs, w.0), w.1)
+    go false true d q e f g h = rw (e, f, token_of_bytes) (omega (arith, front_le digit cs), omega (arith, front_le digit cs), tt)
+    go false false true q e f g h = rw (e, f, g, token_of_bytes) (quoted_fair cs)
+    go false false false true e f g h = rw (e, f, g, h, token_of_bytes) (closed_fair cs (front not_quote cs) (after not_quote cs) (front_le not_quote cs))
+    go false false false false e f g h = rw (e, f, g, h, token_of_bytes) (omega arith, omega arith, tt)
 
-pub rest_lt : (bs : List ℕ) (r : Read) → next_read bs ≡ Some r → length r.rest < length bs
-rest_lt bs r e = omega (arith, unblanked_lt (after blank bs) r e, after_le blank bs)
+unblanked_fair : (xs : List ℕ) (r : Read) → unblanked xs ≡ Some r → (length r.rest < length xs) × (span r.token + length r.rest ≤ length xs) × ShortTok r.token
+unblanked_fair [] r e = absurd (none-some r e)
+unblanked_fair (c ∷ cs) r e = go (comment c) refl
+  where
+    go : (b : Bool) → comment c ≡ b → (length r.rest < length (c ∷ cs)) × (span r.token + length r.rest ≤ length (c ∷ cs)) × ShortTok r.token
+    go true f = let k : unblanked (c ∷ cs) ≡ None = rw (f, unblanked) refl in absurd (none-some r (sym k ∙ e))
+    go false f =
+        let k : unblanked (c ∷ cs) ≡ Some (token_of_bytes c cs) = rw (f, unblanked) refl in
+        let z : r ≡ token_of_bytes c cs = cc in
+        let t = token_fair c cs in
+        rw z (omega (arith, t.0), t.1, t.2)
+
+-- what is left of a line after a token, and the token
+pub next_fair : (bs : List ℕ) (r : Read) → next_read bs ≡ Some r → (length r.rest < length bs) × (span r.token + length r.rest ≤ length bs) × ShortTok r.token
+next_fair bs r e =
+    let h = unblanked_fair (after blank bs) r e in
+    (omega (arith, h.0, front_le blank bs), omega (arith, h.1, front_le blank bs), h.2)
 
 by_none : (k : ℕ) (bs : List ℕ) → next_read bs ≡ None → tokens_by k bs ≡ []
 by_none zero bs e = refl
@@ -67,7 +98,7 @@ turns (suc j) (suc k) bs g h = go (next_read bs) refl (turns j k)
     go : (o : Option Read) → next_read bs ≡ o → ((cs : List ℕ) → length cs ≤ j → length cs ≤ k → tokens_by j cs ≡ tokens_by k cs) → tokens_by (suc j) bs ≡ tokens_by (suc k) bs
     go None e ih = by_none (suc j) bs e ∙ sym (by_none (suc k) bs e)
     go (Some r) e ih =
-        let l = rest_lt bs r e in
+        let l = (next_fair bs r e).0 in
         by_some j bs r e ∙ ap (λ ts. r.token ∷ ts) (ih r.rest (omega arith) (omega arith)) ∙ sym (by_some k bs r e)
 
 by_count : (k : ℕ) (bs : List ℕ) → length (tokens_by k bs) ≤ k
@@ -82,64 +113,17 @@ by_count (suc k) bs = go (next_read bs) refl (by_count k)
 pub tokens_count : (bs : List ℕ) → length (tokens bs) ≤ length bs
 tokens_count bs = by_count (length bs) bs
 
-pub tokens_none : (bs : List ℕ) → next_read bs ≡ None → tokens bs ≡ []
+tokens_none : (bs : List ℕ) → next_read bs ≡ None → tokens bs ≡ []
 tokens_none bs e = by_none (length bs) bs e
 
-pub tokens_some : (bs : List ℕ) (r : Read) → next_read bs ≡ Some r → tokens bs ≡ r.token ∷ tokens r.rest
+tokens_some : (bs : List ℕ) (r : Read) → next_read bs ≡ Some r → tokens bs ≡ r.token ∷ tokens r.rest
 tokens_some bs r e =
-    let l = rest_lt bs r e in
+    let l = (next_fair bs r e).0 in
     turns (length bs) (suc (length bs)) bs (omega arith) (omega arith) ∙ by_some (length bs) bs r e ∙ ap (λ ts. r.token ∷ ts) (turns (length bs) (length r.rest) r.rest (omega arith) (omega arith))
-
-front_le : (p : ℕ → Bool) (xs : List ℕ) → length (front p xs) + length (after p xs) ≤ length xs
-front_le p [] = omega arith
-front_le p (c ∷ cs) = go (p c) refl (front_le p cs)
-  where
-    go : (b : Bool) → p c ≡ b → length (front p cs) + length (after p cs) ≤ length cs → length (front p (c ∷ cs)) + length (after p (c ∷ cs)) ≤ length (c ∷ cs)
-    go true e ih = rw (front_at_yes p c cs e, after_at_yes p c cs e) (omega arith)
-    go false e ih = rw (front_at_no p c cs e, after_at_no p c cs e) (omega arith)
-
-word_span : (c : ℕ) (w : List ℕ) → span (word c w) ≤ 1
-word_span c w = go (leb (length w) 31) refl
-  where
-    go : (b : Bool) → leb (length w) 31 ≡ b → span (word c w) ≤ 1
-    go true e = rw (e, word) (omega arith)
-    go false e = rw (e, word) (omega arith)
-
-quoted_span : (cs : List ℕ) → span (quoted cs).token ≤ 1
-quoted_span [] = omega arith
-quoted_span (c ∷ []) = omega arith
-quoted_span (c ∷ d ∷ cs) = go (eqb d 39) refl
-  where
-    go : (b : Bool) → eqb d 39 ≡ b → span (quoted (c ∷ d ∷ cs)).token ≤ 1
-    go true e = rw (e, quoted) (omega arith)
-    go false e = rw (e, quoted) (omega arith)
-
-closed_span : (all body zs : List ℕ) → length body + length zs ≤ length all → span (closed all body zs).token + length (closed all body zs).rest ≤ length all
-closed_span all body [] h = omega arith
-closed_span all body (z ∷ zs) h = omega arith
-
-token_span : (c : ℕ) (cs : List ℕ) → span (token_of_bytes c cs).token + length (token_of_bytes c cs).rest ≤ suc (length cs)
-token_span c cs = go (starts c) (figures c cs) (eqb c 39) (eqb c 34) refl refl refl refl
-  where
-    go : (a b d q : Bool) → starts c ≡ a → figures c cs ≡ b → eqb c 39 ≡ d → eqb c 34 ≡ q → span (token_of_bytes c cs).token + length (token_of_bytes c cs).rest ≤ suc (length cs)
-    go true b d q e f g h = rw (e, token_of_bytes) (omega (arith, after_le continues cs, word_span c (c ∷ front continues cs)))
-    go false true d q e f g h = rw (e, f, token_of_bytes) (omega (arith, after_le digit cs))
-    go false false true q e f g h = rw (e, f, g, token_of_bytes) (omega (arith, quoted_le cs, quoted_span cs))
-    go false false false true e f g h = rw (e, f, g, h, token_of_bytes) (omega (arith, closed_span cs (front not_quote cs) (after not_quote cs) (front_le not_quote cs)))
-    go false false false false e f g h = rw (e, f, g, h, token_of_bytes) (omega arith)
-
-unblanked_span : (xs : List ℕ) (r : Read) → unblanked xs ≡ Some r → span r.token + length r.rest ≤ length xs
-unblanked_span [] r e = let z : ◌≡◌ {A = ℕ} 0 1 = cc in absurd (omega arith)
-unblanked_span (c ∷ cs) r e = go (comment c) refl
-  where
-    go : (b : Bool) → comment c ≡ b → span r.token + length r.rest ≤ length (c ∷ cs)
-    go true f = let k : unblanked (c ∷ cs) ≡ None = rw (f, unblanked) refl in let z : ◌≡◌ {A = ℕ} 0 1 = cc in absurd (omega arith)
-    go false f = let k : unblanked (c ∷ cs) ≡ Some (token_of_bytes c cs) = rw (f, unblanked) refl in let z : r ≡ token_of_bytes c cs = cc in rw z (token_span c cs)
-
-pub next_span : (bs : List ℕ) (r : Read) → next_read bs ≡ Some r → span r.token + length r.rest ≤ length bs
-next_span bs r e = omega (arith, unblanked_span (after blank bs) r e, after_le blank bs)
 
 -- what a reader of one token gives, as a step through the tokens
 pub tokens_read : {P : Type 0} (bs : List ℕ) (r : Option P) (tok : P → Tok) (rest : P → List ℕ) → MatchOption r (next_read bs ≡ None) (λ p. next_read bs ≡ Some (read (tok p) (rest p))) → MatchOption r (tokens bs ≡ []) (λ p. (tokens bs ≡ tok p ∷ tokens (rest p)) × (length (rest p) < length bs) × (span (tok p) + length (rest p) ≤ length bs))
 tokens_read bs None tok rest e = tokens_none bs e
-tokens_read bs (Some p) tok rest e = (tokens_some bs (read (tok p) (rest p)) e, rest_lt bs (read (tok p) (rest p)) e, next_span bs (read (tok p) (rest p)) e)
+tokens_read bs (Some p) tok rest e =
+    let h = next_fair bs (read (tok p) (rest p)) e in
+    (tokens_some bs (read (tok p) (rest p)) e, h.0, h.1)

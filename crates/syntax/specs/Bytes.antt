@@ -1,5 +1,6 @@
 -- Kinds of bytes, and the bytes at the front of a list.
 use Rattle.std.specs.Prelude.{ℕ, Bool, true, false, ◌||◌, List, [], ◌∷◌, ◌==◌}
+use Rattle.std.specs.List.{list_all}
 use Rattle.program.specs.Names.{among}
 use Rattle.decimal.specs.Numbers.{digit}
 
@@ -25,8 +26,7 @@ continues c = starts c || digit c
 
 -- do all bytes pass?
 abbrev pub every : (ℕ → Bool) → List ℕ → Bool
-every p [] = true
-every p (c ∷ cs) = elim (p c) [ true ↦ every p cs | false ↦ false ]
+every p cs = list_all p cs
 
 -- the longest front whose bytes all pass
 abbrev pub front : (ℕ → Bool) → List ℕ → List ℕ

@@ -71,8 +71,7 @@ then_sign d (t ∷ ts) k = elim (is_sign_token d t) [ true ↦ k ts | false ↦ 
 
 -- a comma and a number follow
 abbrev pub then_further : List Tok → (ℤ → List Tok → Form) → Form
-then_further [] k = unfit
-then_further (t ∷ ts) k = elim (is_sign_token 44 t) [ true ↦ then_number ts k | false ↦ unfit ]
+then_further ts k = then_sign 44 ts λ us. then_number us k
 
 -- NAME, m, r
 abbrev pub unit_form : List Tok → Form

@@ -2,7 +2,6 @@ pub mod Bytes
 pub mod Causes
 pub mod Cells
 pub mod Forms
-pub mod Kinds
 pub mod Left
 pub mod Limits
 pub mod Lines

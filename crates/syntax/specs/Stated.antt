@@ -6,7 +6,7 @@ use Rattle.decimal.specs.Numbers.{numeral}
 use Rattle.syntax.specs.Tokens.{tokens}
 use Rattle.syntax.specs.Forms as F
 use Rattle.syntax.specs.declared.statements.Argument.{Argument}
-use Rattle.syntax.specs.declared.statements.Argument.TheVariants.{Absent, Number, Label}
+use Rattle.syntax.specs.declared.statements.Argument.TheVariants.{Number, Label}
 use Rattle.syntax.specs.declared.statements.LineFault.{LineFault}
 use Rattle.syntax.specs.declared.statements.LineFault.TheVariants.{Bytes, Form}
 use Rattle.syntax.specs.declared.statements.Statement.{Statement}
@@ -17,11 +17,15 @@ abbrev pub label_of : Option (Bor (List ℕ)) → Option (List ℕ)
 label_of None = None
 label_of (Some w) = Some (smalls w.now)
 
+-- the item of an argument
+abbrev pub item_of : Argument → F.Item
+item_of (Number ds) = F.value (numeral ds.now)
+item_of (Label w) = F.at (smalls w.now)
+
 -- an argument as no item or one
-abbrev pub argued : Argument → List F.Item
-argued Absent = []
-argued (Number ds) = F.value (numeral ds.now) ∷ []
-argued (Label w) = F.at (smalls w.now) ∷ []
+abbrev pub argued : Option Argument → List F.Item
+argued None = []
+argued (Some a) = item_of a ∷ []
 
 -- the form of a statement
 abbrev pub stated : Statement → F.Form

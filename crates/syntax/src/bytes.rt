@@ -1,30 +1,15 @@
-ghost use Rattle.std.specs.Prelude.{◌≡◌, ◌≤◌, length, take, drop};
-ghost use Rattle.decimal.specs.Numbers.{digit};
-ghost use Rattle.syntax.specs.Bytes.{plain, starts, front, after};
-ghost use Rattle.syntax.specs.Kinds.{belongs};
-
-// Kinds of bytes that stand together: blanks, the bytes of a name, digits, the bytes up to a quotation mark, and
-// those up to the end of a line.
-#[derive(Clone, Copy)]
-pub enum Kind {
-    Blank,
-    Name,
-    Digit,
-    Quoted,
-    Line,
-}
+ghost use Rattle.std.specs.Prelude.{◌≡◌, ℕ, ◌≤◌, Bool, length, take, drop};
+ghost use Rattle.syntax.specs.Bytes.{plain, starts, continues, blank, front, after};
 
 // May the byte stand in a line?
 pub(crate) fn is_plain(byte: u8) -> bool
     ensures { result ≡ plain byte }
 {
-    match byte {
-        b'\t' | 32..=126 => true,
-        _ => false,
-    }
+    matches!(byte, b'\t' | b' '..=b'~')
 }
 
 // May the byte begin a name?
+// Stays: a rule of the project asks for a match of character literals and ranges for the bytes that begin a label.
 pub(crate) fn starts_name(byte: u8) -> bool
     ensures { result ≡ starts byte }
 {
@@ -34,39 +19,24 @@ pub(crate) fn starts_name(byte: u8) -> bool
     }
 }
 
-pub(crate) fn is_digit(byte: u8) -> bool
-    ensures { result ≡ digit byte }
+// May the byte stand in a name?
+pub(crate) fn continues_name(byte: u8) -> bool
+    ensures { result ≡ continues byte }
 {
-    match char::from(byte) {
-        '0'..='9' => true,
-        _ => false,
-    }
+    starts_name(byte) || byte.is_ascii_digit()
 }
 
-fn is_of(kind: Kind, byte: u8) -> bool
-    ensures { result ≡ belongs kind byte }
+pub(crate) fn is_blank(byte: u8) -> bool
+    ensures { result ≡ blank byte }
 {
-    match kind {
-        Kind::Blank => byte == b' ' || byte == b'\t',
-        Kind::Name => starts_name(byte) || is_digit(byte),
-        Kind::Digit => is_digit(byte),
-        Kind::Quoted => byte != b'"',
-        Kind::Line => byte != b'\n',
-    }
+    matches!(byte, b' ' | b'\t')
 }
 
-// How many bytes at the front are of one kind.
-pub(crate) fn run_len(line: &[u8], kind: Kind) -> usize
+// How many bytes at the front pass; the closure answers a test p.
+pub(crate) fn run_len<F: Fn(u8) -> bool>(line: &[u8], passes: F) -> usize
+    requires { F.IsAlwaysCallable passes }
     ensures within { result ≤ length line.now }
-    ensures front { take result line.now ≡ front (belongs kind) line.now }
-    ensures after { drop result line.now ≡ after (belongs kind) line.now }
+    ensures run { (p : ℕ → Bool) → ((byte : ℕ) (r : Bool) → F.post passes byte r → r ≡ p byte) → (take result line.now ≡ front p line.now) × (drop result line.now ≡ after p line.now) }
 {
-    let mut n = 0;
-    for byte in line {
-        if !is_of(kind, *byte) {
-            return n;
-        }
-        n += 1;
-    }
-    n
+    line.iter().take_while(|byte| passes(**byte)).count()
 }

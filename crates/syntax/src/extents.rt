@@ -6,7 +6,7 @@ ghost use Rattle.syntax.specs.Cells.{cells, span, spans, times};
 ghost use Rattle.syntax.specs.Meant.{meant};
 ghost use Rattle.syntax.specs.Stated.{stated, argued};
 
-use crate::statements::{Argument, Statement};
+use crate::statements::Statement;
 use crate::tokens::{Token, Tokens};
 use decimal::cell_number;
 
@@ -32,20 +32,10 @@ fn cells_in(list: &[u8]) -> usize
 fn copies_in(count: &[u8]) -> usize
     ensures { result ≡ times (numeral count.now) }
 {
-    match cell_number(count) {
-        Some(k) => if k >= 0 && k <= 1000 { k as usize } else { 0 },
-        None => 0,
-    }
-}
-
-fn argument_cells(argument: Argument) -> usize
-    ensures is { result ≡ length (argued argument.entry) }
-    ensures within { result ≤ 1 }
-{
-    match argument {
-        Argument::Absent => 0,
-        _ => 1,
-    }
+    cell_number(count)
+        .and_then(|k| usize::try_from(k).ok())
+        .filter(|k| *k <= 1000)
+        .unwrap_or(0)
 }
 
 // How many cells a statement takes.
@@ -53,7 +43,7 @@ pub fn cells_of(statement: Statement) -> usize
     ensures { result ≡ length (cells (stated statement.entry)) }
 {
     match statement {
-        Statement::Instruction(_, _, argument) => 1 + argument_cells(argument),
+        Statement::Instruction(_, _, argument) => 1 + usize::from(argument.is_some()),
         Statement::Words(_, list) => cells_in(list),
         Statement::Copies(_, count, _) => copies_in(count),
         Statement::Empty | Statement::Enter(_) | Statement::Unit(_, _, _) => 0,

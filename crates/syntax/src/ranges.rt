@@ -27,15 +27,15 @@ fn is_within(number: &[u8], low: u16, high: u16) -> bool
 }
 
 // A count goes from 0 to 1,000, and any other number has 32 signed bits.
-fn is_argument(op: Opcode, argument: Argument) -> bool
+fn is_argument(op: Opcode, argument: Option<Argument>) -> bool
     ensures { result ≡ items_range (operand op) (argued argument.entry) }
 {
     match argument {
-        Argument::Number(number) => match operand_of(op) {
+        Some(Argument::Number(number)) => match operand_of(op) {
             Operand::Count => is_within(number, 0, 1000),
             _ => is_cell(number),
         },
-        _ => true,
+        Some(Argument::Label(_)) | None => true,
     }
 }
 
@@ -44,7 +44,7 @@ fn is_figure(token: Token) -> bool
 {
     match token {
         Token::Number(number) => is_cell(number),
-        _ => true,
+        Token::Name(_) | Token::Character(_) | Token::Text(_) | Token::Sign(_) => true,
     }
 }
 

@@ -7,18 +7,17 @@ ghost use Rattle.syntax.specs.Tokens.{Tok, tokens};
 ghost use Rattle.syntax.specs.Forms.{Form, Item, unfit, then_name, then_number, then_sign, then_further, ended, unit_form, section_of_name, directive, then_argument, instruction_form, is_dup_token, is_sign_token, copies_form, is_item_token, is_list, listed, data_form, operation, labelled, spelled, form};
 ghost use Rattle.syntax.specs.Limits.{Limited};
 ghost use Rattle.syntax.specs.Meant.{meant};
-ghost use Rattle.syntax.specs.Stated.{stated, formed, label_of, argued, line_form};
+ghost use Rattle.syntax.specs.Stated.{stated, formed, label_of, item_of, argued, line_form};
 ghost use Rattle.syntax.specs.Causes.{line_cause};
 
 use crate::bytes::is_plain;
-use crate::tokens::{Token, next_token};
+use crate::tokens::{Token, Tokens, next_token};
 use isa::{Opcode, Operand, opcode_named, operand_of};
 use program::{AssemblyCause, Section, is_word};
 
-// What stands after an instruction's mnemonic.
+// What stands after an instruction's mnemonic, if anything does.
 #[derive(Clone, Copy)]
 pub enum Argument<'a> {
-    Absent,
     Number(&'a [u8]),
     Label(&'a [u8]),
 }
@@ -31,7 +30,7 @@ pub enum Statement<'a> {
     Empty,
     Enter(Section),
     Unit(&'a [u8], &'a [u8], &'a [u8]),
-    Instruction(Option<&'a [u8]>, Opcode, Argument<'a>),
+    Instruction(Option<&'a [u8]>, Opcode, Option<Argument<'a>>),
     Words(Option<&'a [u8]>, &'a [u8]),
     Copies(Option<&'a [u8]>, &'a [u8], &'a [u8]),
 }
@@ -44,6 +43,7 @@ pub enum LineFault {
     Form,
 }
 
+// The cause with which an assembly refuses such a line.
 impl From<LineFault> for AssemblyCause {
     ghost from_gives = { λ fault cause. cause ≡ line_cause fault };
 
@@ -55,6 +55,7 @@ impl From<LineFault> for AssemblyCause {
     }
 }
 
+// Stays: take_name, take_number and take_value are one match each; one reader with a closure would keep all three.
 fn take_name<'a>(line: &'a [u8]) -> Option<(&'a [u8], &'a [u8])>
     ensures { MatchOption result ((k : List ℕ → List Tok → Form) → then_name (tokens line.now) k ≡ unfit) (λ p. (k : List ℕ → List Tok → Form) → then_name (tokens line.now) k ≡ k (smalls p.0.now) (tokens p.1.now)) }
 {
@@ -85,20 +86,14 @@ fn take_sign<'a>(line: &'a [u8], sign: u8) -> Option<&'a [u8]>
 fn only<'a>(line: &'a [u8], statement: Statement<'a>) -> Option<Statement<'a>>
     ensures { formed result ≡ ended (tokens line.now) (stated statement.entry) }
 {
-    match next_token(line) {
-        Some(_) => None,
-        None => Some(statement),
-    }
+    next_token(line).is_none().then_some(statement)
 }
 
 // A comma and a number.
 fn take_further<'a>(line: &'a [u8]) -> Option<(&'a [u8], &'a [u8])>
     ensures { MatchOption result ((k : ℤ → List Tok → Form) → then_further (tokens line.now) k ≡ unfit) (λ p. (k : ℤ → List Tok → Form) → then_further (tokens line.now) k ≡ k (numeral p.0.now) (tokens p.1.now)) }
 {
-    match next_token(line) {
-        Some((Token::Sign(b','), rest)) => take_number(rest),
-        _ => None,
-    }
+    take_number(take_sign(line, b',')?)
 }
 
 // NAME, m, r.
@@ -130,19 +125,16 @@ fn directive_statement<'a>(line: &'a [u8]) -> Option<Statement<'a>>
     ensures { formed result ≡ directive (tokens line.now) }
 {
     let (word, line) = take_name(line)?;
-    if let Some(section) = section_named(word) {
-        return only(line, Statement::Enter(section));
-    }
-    if is_word(word, b"unit") {
-        unit_statement(line)
-    } else {
-        None
+    match section_named(word) {
+        Some(section) => only(line, Statement::Enter(section)),
+        None if is_word(word, b"unit") => unit_statement(line),
+        None => None,
     }
 }
 
 // A number or a label.
 fn take_value<'a>(line: &'a [u8]) -> Option<(Argument<'a>, &'a [u8])>
-    ensures { MatchOption result ((k : List Item → List Tok → Form) → then_argument Value (tokens line.now) k ≡ unfit) (λ p. (k : List Item → List Tok → Form) → then_argument Value (tokens line.now) k ≡ k (argued p.0) (tokens p.1.now)) }
+    ensures { MatchOption result ((k : List Item → List Tok → Form) → then_argument Value (tokens line.now) k ≡ unfit) (λ p. (k : List Item → List Tok → Form) → then_argument Value (tokens line.now) k ≡ k (item_of p.0 ∷ []) (tokens p.1.now)) }
 {
     match next_token(line) {
         Some((Token::Number(digits), rest)) => Some((Argument::Number(digits), rest)),
@@ -152,19 +144,22 @@ fn take_value<'a>(line: &'a [u8]) -> Option<(Argument<'a>, &'a [u8])>
 }
 
 // An argument of the kind that an instruction takes.
-fn take_argument<'a>(wanted: Operand, line: &'a [u8]) -> Option<(Argument<'a>, &'a [u8])>
+fn take_argument<'a>(wanted: Operand, line: &'a [u8]) -> Option<(Option<Argument<'a>>, &'a [u8])>
     ensures { MatchOption result ((k : List Item → List Tok → Form) → then_argument wanted (tokens line.now) k ≡ unfit) (λ p. (k : List Item → List Tok → Form) → then_argument wanted (tokens line.now) k ≡ k (argued p.0) (tokens p.1.now)) }
 {
     match wanted {
-        Operand::Absent => Some((Argument::Absent, line)),
-        Operand::Value => take_value(line),
+        Operand::Absent => Some((None, line)),
+        Operand::Value => {
+            let (value, line) = take_value(line)?;
+            Some((Some(value), line))
+        }
         Operand::Target => {
             let (name, line) = take_name(line)?;
-            Some((Argument::Label(name), line))
+            Some((Some(Argument::Label(name)), line))
         }
         Operand::Count | Operand::Number => {
             let (digits, line) = take_number(line)?;
-            Some((Argument::Number(digits), line))
+            Some((Some(Argument::Number(digits)), line))
         }
     }
 }
@@ -180,10 +175,7 @@ fn instruction<'a>(label: Option<&'a [u8]>, op: Opcode, line: &'a [u8]) -> Optio
 fn is_dup(token: Token) -> bool
     ensures { result ≡ is_dup_token (meant token.entry) }
 {
-    match token {
-        Token::Name(name) => is_word(name, b"dup"),
-        _ => false,
-    }
+    matches!(token, Token::Name(name) if is_word(name, b"dup"))
 }
 
 fn copies<'a>(label: Option<&'a [u8]>, count: &'a [u8], line: &'a [u8]) -> Option<Statement<'a>>
@@ -199,51 +191,38 @@ fn copies<'a>(label: Option<&'a [u8]>, count: &'a [u8], line: &'a [u8]) -> Optio
 fn is_item(token: Token) -> bool
     ensures { result ≡ is_item_token (meant token.entry) }
 {
-    match token {
-        Token::Sign(_) => false,
-        _ => true,
-    }
+    !matches!(token, Token::Sign(_))
 }
 
 fn is_sign(token: Token, sign: u8) -> bool
     ensures { result ≡ is_sign_token sign (meant token.entry) }
 {
-    match token {
-        Token::Sign(found) => found == sign,
-        _ => false,
-    }
+    matches!(token, Token::Sign(found) if found == sign)
 }
 
 // Are these one item or more, with commas between?
 fn are_items(line: &[u8]) -> bool
     ensures { result ≡ is_list (tokens line.now) }
 {
-    let mut rest = line;
-    loop {
-        let Some((token, after)) = next_token(rest) else {
-            return false;
+    let mut item_due = true;
+    for token in Tokens::new(line) {
+        let fits = if item_due {
+            is_item(token)
+        } else {
+            is_sign(token, b',')
         };
-        if !is_item(token) {
+        if !fits {
             return false;
         }
-        let Some((comma, more)) = next_token(after) else {
-            return true;
-        };
-        if !is_sign(comma, b',') {
-            return false;
-        }
-        rest = more;
+        item_due = !item_due;
     }
+    !item_due
 }
 
 fn words<'a>(label: Option<&'a [u8]>, line: &'a [u8]) -> Option<Statement<'a>>
     ensures { formed result ≡ listed (label_of label.entry) (tokens line.now) }
 {
-    if are_items(line) {
-        Some(Statement::Words(label, line))
-    } else {
-        None
-    }
+    are_items(line).then_some(Statement::Words(label, line))
 }
 
 // DW: a list of items, or k DUP(n).
@@ -251,15 +230,12 @@ fn data_statement<'a>(label: Option<&'a [u8]>, line: &'a [u8]) -> Option<Stateme
     ensures { formed result ≡ data_form (label_of label.entry) (tokens line.now) }
 {
     let (first, rest) = next_token(line)?;
-    let Some((second, rest)) = next_token(rest) else {
-        return words(label, line);
-    };
-    if !is_dup(second) {
-        return words(label, line);
-    }
-    match first {
-        Token::Number(count) => copies(label, count, rest),
-        _ => None,
+    match next_token(rest) {
+        Some((second, rest)) if is_dup(second) => match first {
+            Token::Number(count) => copies(label, count, rest),
+            _ => None,
+        },
+        _ => words(label, line),
     }
 }
 
@@ -312,15 +288,7 @@ fn spelled_statement<'a>(line: &'a [u8]) -> Option<Statement<'a>>
 fn is_lawful(line: &[u8]) -> bool
     ensures { result ≡ (nat_le (length line.now) 255 && every plain line.now) }
 {
-    if line.len() > 255 {
-        return false;
-    }
-    for byte in line {
-        if !is_plain(*byte) {
-            return false;
-        }
-    }
-    true
+    line.len() <= 255 && line.iter().all(|byte| is_plain(*byte))
 }
 
 // The statement of a line.

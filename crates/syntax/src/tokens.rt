@@ -1,12 +1,13 @@
 ghost use Rattle.std.specs.Prelude.{◌≡◌, ℕ, ◌+◌, ◌<◌, ◌≤◌, true, false, List, [], ◌∷◌, length, drop, Some, None, MatchOption, slice_index};
-ghost use Rattle.syntax.specs.Bytes.{starts};
+ghost use Rattle.decimal.specs.Numbers.{digit, numeral};
+ghost use Rattle.syntax.specs.Bytes.{starts, continues, front, after};
 ghost use Rattle.syntax.specs.Cells.{span};
-ghost use Rattle.syntax.specs.Tokens.{begins, figures, token_of_bytes, next_read, read, tokens};
+ghost use Rattle.syntax.specs.Tokens.{number, figures, closed, word, not_quote, next_read, read, tokens};
 ghost use Rattle.syntax.specs.Meant.{meant, token_of};
 ghost use Rattle.syntax.specs.Left.{tokens_left};
 ghost use Rattle.std.specs.Iterator.{YieldsFirstBy, item_count};
 
-use crate::bytes::{Kind, is_digit, run_len, starts_name};
+use crate::bytes::{continues_name, is_blank, run_len, starts_name};
 
 // A token of a line. A name, a number and a text borrow their bytes from it.
 #[derive(Clone, Copy)]
@@ -20,20 +21,18 @@ pub enum Token<'a> {
 
 // Is the first byte a digit, or a minus before a digit?
 fn begins_number(line: &[u8]) -> bool
-    requires { 0 < length line.now }
     ensures { result ≡ figures (slice_index line.now 0) (drop 1 line.now) }
 {
     match line {
-        [b'-', second, ..] => is_digit(*second),
-        [first, ..] => is_digit(*first),
+        [b'-', second, ..] => second.is_ascii_digit(),
+        [first, ..] => first.is_ascii_digit(),
         [] => false,
     }
 }
 
 // A character between apostrophes, or an apostrophe alone.
 fn quoted_token<'a>(line: &'a [u8]) -> (Token<'a>, &'a [u8])
-    requires begun { 0 < length line.now }
-    requires apostrophe { slice_index line.now 0 ≡ 39 }
+    requires { slice_index line.now 0 ≡ 39 }
     ensures { read (meant result.0) result.1.now ≡ token_of line.now }
 {
     match line {
@@ -45,14 +44,11 @@ fn quoted_token<'a>(line: &'a [u8]) -> (Token<'a>, &'a [u8])
     }
 }
 
-// A text between quotation marks, or a quotation mark alone.
-fn text_token<'a>(line: &'a [u8]) -> (Token<'a>, &'a [u8])
-    requires begun { 0 < length line.now }
-    requires quotation { slice_index line.now 0 ≡ 34 }
-    ensures { read (meant result.0) result.1.now ≡ token_of line.now }
+// After a quotation mark: the text up to the next one, or the mark alone.
+fn text_token<'a>(inner: &'a [u8]) -> (Token<'a>, &'a [u8])
+    ensures { read (meant result.0) result.1.now ≡ closed inner.now (front not_quote inner.now) (after not_quote inner.now) }
 {
-    let inner = &line[1..];
-    let (body, rest) = inner.split_at(run_len(inner, Kind::Quoted));
+    let (body, rest) = inner.split_at(run_len(inner, |byte| byte != b'"'));
     match rest {
         [_, after @ ..] => (Token::Text(body), after),
         [] => (Token::Sign(b'"'), inner),
@@ -61,11 +57,9 @@ fn text_token<'a>(line: &'a [u8]) -> (Token<'a>, &'a [u8])
 
 // A word of at most 31 bytes is a name; a longer one is a sign that no form has.
 fn name_token<'a>(line: &'a [u8]) -> (Token<'a>, &'a [u8])
-    requires begun { 0 < length line.now }
-    requires lettered { starts (slice_index line.now 0) ≡ true }
-    ensures { read (meant result.0) result.1.now ≡ token_of line.now }
+    ensures { read (meant result.0) result.1.now ≡ read (word (slice_index line.now 0) (front continues line.now)) (after continues line.now) }
 {
-    let (word, rest) = line.split_at(run_len(line, Kind::Name));
+    let (word, rest) = line.split_at(run_len(line, continues_name));
     if word.len() <= 31 {
         (Token::Name(word), rest)
     } else {
@@ -73,13 +67,12 @@ fn name_token<'a>(line: &'a [u8]) -> (Token<'a>, &'a [u8])
     }
 }
 
+// The first byte and the digits after it.
 fn number_token<'a>(line: &'a [u8]) -> (Token<'a>, &'a [u8])
-    requires begun { 0 < length line.now }
-    requires unlettered { starts (slice_index line.now 0) ≡ false }
-    requires figures { figures (slice_index line.now 0) (drop 1 line.now) ≡ true }
-    ensures { read (meant result.0) result.1.now ≡ token_of line.now }
+    requires { 0 < length line.now }
+    ensures { read (meant result.0) result.1.now ≡ read (number (numeral (slice_index line.now 0 ∷ front digit (drop 1 line.now)))) (after digit (drop 1 line.now)) }
 {
-    let (digits, rest) = line.split_at(1 + run_len(&line[1..], Kind::Digit));
+    let (digits, rest) = line.split_at(1 + run_len(&line[1..], |byte| byte.is_ascii_digit()));
     (Token::Number(digits), rest)
 }
 
@@ -97,7 +90,7 @@ fn token_at<'a>(line: &'a [u8]) -> (Token<'a>, &'a [u8])
     }
     match first {
         b'\'' => quoted_token(line),
-        b'"' => text_token(line),
+        b'"' => text_token(&line[1..]),
         _ => (Token::Sign(first), &line[1..]),
     }
 }
@@ -106,7 +99,7 @@ fn token_at<'a>(line: &'a [u8]) -> (Token<'a>, &'a [u8])
 fn first_token<'a>(line: &'a [u8]) -> Option<(Token<'a>, &'a [u8])>
     ensures { MatchOption result (next_read line.now ≡ None) (λ p. next_read line.now ≡ Some (read (meant p.0) p.1.now)) }
 {
-    let (_, rest) = line.split_at(run_len(line, Kind::Blank));
+    let (_, rest) = line.split_at(run_len(line, is_blank));
     match rest {
         [] => None,
         [b';' | b'#', ..] => None,
@@ -115,6 +108,7 @@ fn first_token<'a>(line: &'a [u8]) -> Option<(Token<'a>, &'a [u8])>
 }
 
 // The first token of what is left of a line, and the rest.
+// Stays: beside `Tokens`, a rule of the project asks for a token reader that answers token and rest as a pair.
 pub fn next_token<'a>(line: &'a [u8]) -> Option<(Token<'a>, &'a [u8])>
     ensures read { MatchOption result (next_read line.now ≡ None) (λ p. next_read line.now ≡ Some (read (meant p.0) p.1.now)) }
     ensures tokens { MatchOption result (tokens line.now ≡ []) (λ p. (tokens line.now ≡ meant p.0 ∷ tokens p.1.now) × (length p.1.now < length line.now) × (span (meant p.0) + length p.1.now ≤ length line.now)) }
@@ -129,6 +123,7 @@ pub struct Tokens<'a> {
 }
 
 impl<'a> Tokens<'a> {
+    #[tactic(auto, using(crate::proofs::Tokened::tokens_count))]
     pub fn new(line: &'a [u8]) -> Tokens<'a>
         ensures tokens { tokens_left result ≡ tokens line.now }
         ensures count { length (tokens_left result) ≤ length line.now }

@@ -1,31 +1,16 @@
-use Rattle.std.proofs.Common.{◌≡◌, ◌<◌, ◌≤◌, true, false, ◌++◌, length, get_or, take, sym, ap, ◌∙◌, arith}
-use Rattle.std.proofs.lemmas.List.{drop_all, append-nil}
-use Rattle.syntax.specs.Kinds.{belongs}
-use Rattle.syntax.proofs.Runs.{front_yes, after_yes, front_no, after_no}
+use borrow.Author.Tests.{tests}
+use Rattle.std.proofs.Common.{◌≡◌, ◌∙◌, rules}
+use Rattle.std.proofs.lemmas.Iterator.{YieldsList-from_slice}
+use Rattle.std.proofs.lemmas.Iterator.Consumers.{YieldsList-at, count_from_yields_List}
+use Rattle.std.proofs.lemmas.Iterator.Search.{YieldsList-from_take_while}
+use Rattle.std.proofs.lemmas.List.Folds.{length-prefix_len}
+use Rattle.std.specs.List.{prefix_len}
+use Rattle.syntax.proofs.Runs.{front_prefix, after_prefix}
 use Rattle.syntax.proofs.bytes.run_len.Goals as goal
 
-pub returns-then-not-is_of : goal.returns-then-not-is_of
-returns-then-not-is_of c =
-    let h : c.loop-byte.n < length c.args.line.now = omega arith in
-    let e : belongs c.args.kind (get_or c.args.line.now c.loop-byte.n 0) ≡ false = cc in
-    record {
-      within = omega arith;
-      front = sym (append-nil _) ∙ ap (λ t. take c.loop-byte.n c.args.line.now ++ t) (sym (front_no _ _ _ h e)) ∙ c.loop-byte.invariant.1;
-      after = sym (after_no _ _ _ h e) ∙ c.loop-byte.invariant.2;
-    }
-
-pub loop-byte-preserved : goal.loop-byte-preserved
-loop-byte-preserved c =
-    let h : c.loop-byte.n < length c.args.line.now = omega arith in
-    let e : belongs c.args.kind (get_or c.args.line.now c.loop-byte.n 0) ≡ true = cc in
-    (omega arith, sym (front_yes _ _ _ h e) ∙ c.loop-byte.invariant.1, sym (after_yes _ _ _ h e) ∙ c.loop-byte.invariant.2)
-
-pub returns : goal.returns
-returns c =
-    let h : length c.args.line.now ≤ c.loop-byte.n = omega arith in
-    let d = drop_all c.loop-byte.n c.args.line.now h in
-    record {
-      within = omega arith;
-      front = sym (append-nil _) ∙ (rw d at c.loop-byte.invariant.1);
-      after = d ∙ (rw d at c.loop-byte.invariant.2);
-    }
+pub returns-clause-run : goal.returns-clause-run
+returns-clause-run g c p h =
+    let all = c.args.line.now in
+    let n : c.count.result ≡ prefix_len p all =
+    count_from_yields_List c.take_while.result _ c.count.ensures.ran (YieldsList-from_take_while _ p (YieldsList-at c.take_while.ensures.source (YieldsList-from_slice all c.iter.ensures.rest)) c.take_while.ensures.closure c.take_while.ensures.done (λ x b q k. search (rules, tests, h))) ∙ length-prefix_len p all in
+    (rw n (front_prefix p all), rw n (after_prefix p all))

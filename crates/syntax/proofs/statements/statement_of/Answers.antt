@@ -4,7 +4,7 @@ use Rattle.syntax.specs.Stated.{line_form}
 use Rattle.syntax.proofs.Bounds.{limited}
 use Rattle.syntax.proofs.statements.statement_of.Goals as goal
 
-pub returns : goal.returns
-returns c =
+pub returns-clause-limited : goal.returns-clause-limited
+returns-clause-limited c =
     let e : line_form c.ok_or.result ≡ form c.args.line.now = search rules in
-    record { form = e; limited = rw e (limited c.args.line.now) }
+    rw e (limited c.args.line.now)
