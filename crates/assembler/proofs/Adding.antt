@@ -11,11 +11,11 @@ use Rattle.program.specs.declared.fault.AssemblyCause.TheVariants.{ListFull}
 use Rattle.assembler.specs.Marks.{has}
 use Rattle.assembler.specs.Survey.{Step, adding, stop}
 
-has_at_yes : (w v : List ℕ) (vs : List (List ℕ)) → true ≡ same w v → has w (v ∷ vs) ≡ true
-has_at_yes w v vs e = rw (← e, has) refl
+pub has_yes : (w v : List ℕ) (vs : List (List ℕ)) → same w v ≡ true → has w (v ∷ vs) ≡ true
+has_yes w v vs e = rw (e, has) refl
 
-has_at_no : (w v : List ℕ) (vs : List (List ℕ)) → false ≡ same w v → has w (v ∷ vs) ≡ has w vs
-has_at_no w v vs e = rw (← e, has) refl
+pub has_no : (w v : List ℕ) (vs : List (List ℕ)) → same w v ≡ false → has w (v ∷ vs) ≡ has w vs
+has_no w v vs e = rw (e, has) refl
 
 -- is a word the name of an item?
 pub has_any : {T : Type 0} (named : T → List ℕ) (w : List ℕ) (xs : List T) → list_any (λ x. same w (named x)) xs ≡ has w (map named xs)
@@ -23,8 +23,8 @@ has_any named w [] = refl
 has_any named w (x ∷ xs) = go (same w (named x)) refl (has_any named w xs)
   where
     go : (b : Bool) → same w (named x) ≡ b → list_any (λ y. same w (named y)) xs ≡ has w (map named xs) → list_any (λ y. same w (named y)) (x ∷ xs) ≡ has w (named x ∷ map named xs)
-    go true e ih = ap (λ b. b || list_any (λ y. same w (named y)) xs) e ∙ sym (has_at_yes w (named x) (map named xs) (sym e))
-    go false e ih = ap (λ b. b || list_any (λ y. same w (named y)) xs) e ∙ ih ∙ sym (has_at_no w (named x) (map named xs) (sym e))
+    go true e ih = ap (λ b. b || list_any (λ y. same w (named y)) xs) e ∙ sym (has_yes w (named x) (map named xs) e)
+    go false e ih = ap (λ b. b || list_any (λ y. same w (named y)) xs) e ∙ ih ∙ sym (has_no w (named x) (map named xs) e)
 
 module _ {X : Type 0} (room : ℕ) (names : List (List ℕ)) (xs : List X) (w : List ℕ) (x : X) (on : List X → Step) where
   pub adding_full : false ≡ has w names → room ≤ length xs → adding room names xs w x on ≡ stop ListFull

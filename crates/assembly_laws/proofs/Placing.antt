@@ -15,6 +15,7 @@ use Rattle.assembler.specs.declared.tally.Tally.{Tally}
 use Rattle.assembler.specs.Cells.{items_in, same_section, following_section}
 use Rattle.assembler.specs.Marks.{Mark, mark, Entry, entry, has}
 use Rattle.assembler.specs.Survey.{Survey, surveyed, Step, go, stop, demand, extent, octet, is_code, grown, entered, adding, putting, declaring, taken, step, done, fault, survey}
+use Rattle.assembler.proofs.Adding.{has_no, has_yes}
 use Rattle.assembler.proofs.Sizes.{step_counts}
 use Rattle.assembler.proofs.Written.{items_on}
 use Rattle.assembly_laws.specs.Laws.{Each, Distinct, label_in}
@@ -48,12 +49,6 @@ same_sym (a ∷ as') (b ∷ bs) = go' (eqb a b) refl (same_sym as' bs)
     go' : (t : Bool) → eqb a b ≡ t → same as' bs ≡ same bs as' → same (a ∷ as') (b ∷ bs) ≡ same (b ∷ bs) (a ∷ as')
     go' true e ih = same_at_yes a b as' bs e ∙ ih ∙ sym (same_at_yes b a bs as' (eq-eqb b a (sym (eqb-true a b e))))
     go' false e ih = same_at_no a b as' bs e ∙ sym (same_at_no b a bs as' (ne_eqb b a (λ q. eqb-false a b e (sym q))))
-
-has_yes : (w v : List ℕ) (vs : List (List ℕ)) → same w v ≡ true → has w (v ∷ vs) ≡ true
-has_yes w v vs e = rw (e, has) refl
-
-has_no : (w v : List ℕ) (vs : List (List ℕ)) → same w v ≡ false → has w (v ∷ vs) ≡ has w vs
-has_no w v vs e = rw (e, has) refl
 
 -- a word that is not among names is none of them
 not_has : (w v : List ℕ) (vs : List (List ℕ)) → has w (v ∷ vs) ≡ false → (same w v ≡ false) × (has w vs ≡ false)
