@@ -13,6 +13,7 @@ use port::Port;
 use program::{Fault, Place};
 
 // Does what an instruction asks of the port, and then moves the registers on to next.
+// Stays: registers and memory apart, since a step that is none keeps the registers, and `put` takes them so.
 fn settle<P: Port>(
     effect: Effect,
     next: Registers,
