@@ -1,5 +1,5 @@
 -- Walks, lawful plans, and refusals.
-use Rattle.std.proofs.Common.{◌≡◌, ℕ, ◌+◌, ◌-◌, ◌≤◌, List, [], ◌∷◌, ℤ, pos, Some, None, Option, sym, refl, ap, ◌∙◌, subst, inl, inr, arith}
+use Rattle.std.proofs.Common.{◌≡◌, ℕ, ◌+◌, ◌-◌, ◌≤◌, List, [], ◌∷◌, ℤ, pos, Some, sym, refl, ap, ◌∙◌, subst, inl, inr, arith}
 use Rattle.std.specs.List.{AllByRecursion}
 use Rattle.std.proofs.lemmas.Int.{ints}
 use Rattle.program.specs.declared.fault.CheckCause.{CheckCause}
@@ -28,12 +28,8 @@ all_in Q (y ∷ ys) x h (inr i) = all_in Q ys x h.1 i
 pub pos_same : (a b : ℕ) → pos a ≡ pos b → a ≡ b
 pos_same a b e = cc
 
-abbrev somewhat : Option Instruction → Instruction → Instruction
-somewhat None d = d
-somewhat (Some i) d = i
-
 some_same : (i j : Instruction) → Some i ≡ Some j → i ≡ j
-some_same i j e = ap (λ (x : Option Instruction). somewhat x i) e
+some_same i j e = cc
 
 abbrev row_of : Instruction → Row
 row_of i = table i.op (count i.argument)
