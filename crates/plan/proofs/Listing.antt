@@ -1,5 +1,5 @@
 -- Units in their order, and what is asked of one of them.
-use Rattle.std.proofs.Common.{◌≡◌, ℕ, zero, suc, ◌+◌, ◌<◌, ◌≤◌, Bool, List, ℤ, pos, ◌≤ℤ◌, Some, None, Decides, Option, sym, ap, ◌∙◌, subst, inl, inr, ⊎_elim, arith}
+use Rattle.std.proofs.Common.{◌≡◌, ℕ, zero, suc, ◌+◌, ◌<◌, ◌≤◌, Bool, List, ℤ, pos, ◌≤ℤ◌, Some, Decides, sym, ap, ◌∙◌, subst, inl, inr, ⊎_elim, arith}
 use Rattle.std.proofs.lemmas.Int.{ints}
 use Rattle.std.proofs.lemmas.List.{get_or_default}
 use Rattle.std.proofs.lemmas.Bool.{cases_lt}
@@ -25,9 +25,8 @@ units_each us Q i w f at q k v l p = ⊎_elim (λ (h : k < i). f k v h p) (λ (h
 abbrev ret : ℤ → Instruction
 ret k = record { op = Ret; argument = k }
 
-abbrev argument_of : Option Instruction → ℤ
-argument_of None = pos 0
-argument_of (Some i) = i.argument
+same_count : (k n : ℤ) → Some (ret k) ≡ Some (ret n) → k ≡ n
+same_count k n e = let s : ret k ≡ ret n = cc in ap (λ (i : Instruction). i.argument) s
 
 -- a RET of k ends the body's unit, v, just if k is its count of arguments
 module _ (P : Program) (a b h : ℕ) (k : ℤ) (r : Bool) (v : UnitRecord) where
@@ -38,7 +37,7 @@ module _ (P : Program) (a b h : ℕ) (k : ℤ) (r : Bool) (v : UnitRecord) where
       back j w q =
           let x : j ≡ u.0 = omega (arith, q.body, u.2) in
           let t : w ≡ v = listed_same P.units u.0 w v (subst (λ (n : ℕ). Listed P.units n w) x q.listed) u.1 in
-          let n : k ≡ pos w.arguments = ap argument_of (sym e ∙ q.returns) in n ∙ ap (λ (y : UnitRecord). pos y.arguments) t
+          let n : k ≡ pos w.arguments = same_count k (pos w.arguments) (sym e ∙ q.returns) in n ∙ ap (λ (y : UnitRecord). pos y.arguments) t
 
 -- an offset from 3 on lies in the frame just if it is that of an argument or the result of the body's unit, v
 pub frame_at : (us : List UnitRecord) (b h : ℕ) (n : ℤ) (r : Bool) (v : UnitRecord) → pos 3 ≤ℤ n → ((j : ℕ) × Listed us j v × (b ≡ suc j)) → Decides r (n ≤ℤ pos (v.arguments + 2 + v.results)) → Decides r (InFrame us b h n)
