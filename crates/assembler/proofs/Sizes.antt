@@ -1,5 +1,6 @@
 -- The tally of surveyed lines counts the cells of each section.
 use Rattle.std.proofs.Common.{◌≡◌, ℕ, suc, ◌+◌, Bool, true, false, cond, not, ltb, List, [], ◌∷◌, ◌++◌, map, length, Some, None, Option, sym, refl, ap, ◌∙◌, arith, length-append}
+use Rattle.std.proofs.lemmas.Bool.{not-true}
 use Rattle.program.specs.declared.fault.AssemblyCause.{AssemblyCause}
 use Rattle.program.specs.declared.fault.AssemblyCause.TheVariants.{LineBytes, NoForm, NumberRange, LateUnit, WrongSection, GivenTwice, ListFull}
 use Rattle.program.specs.declared.section.Section.{Section}
@@ -18,17 +19,19 @@ pub record Counted (s t : Tally) (f : Form) : Type 0 where
   pub at : t.section ≡ following_section s.section f
   pub more : (q : Section) → extent t q ≡ extent s q + length (cond (same_section q s.section) (cells f) [])
 
-clash : {A : Type 0} (t : Survey) (c : AssemblyCause) → stop c ≡ go t → A
+pub clash : {A : Type 0} (t : Survey) (c : AssemblyCause) → stop c ≡ go t → A
 clash t c e = let z : ◌≡◌ {A = ℕ} 0 1 = cc in absurd (omega arith)
 
 -- what was demanded held
-demanded : {A : Type 0} (b : Bool) (c : AssemblyCause) (x : Step) (t : Survey) → demand b c x ≡ go t → (x ≡ go t → A) → A
-demanded true c x t e k = k e
-demanded false c x t e k = clash t c e
+pub demanded : (b : Bool) (c : AssemblyCause) (x : Step) (t : Survey) → demand b c x ≡ go t → (b ≡ true) × (x ≡ go t)
+demanded true c x t e = (refl, e)
+demanded false c x t e = clash t c e
 
-added : {X A : Type 0} (room : ℕ) (names : List (List ℕ)) (xs : List X) (w : List ℕ) (x : X) (on : List X → Step) (t : Survey) → adding room names xs w x on ≡ go t → (on (xs ++ x ∷ []) ≡ go t → A) → A
-added room names xs w x on t e k =
-    demanded (not (has w names)) GivenTwice (demand (ltb (length xs) room) ListFull (on (xs ++ x ∷ []))) t e (λ e₁. demanded (ltb (length xs) room) ListFull (on (xs ++ x ∷ [])) t e₁ k)
+-- a new name, with room in the list
+pub added : {X : Type 0} (room : ℕ) (names : List (List ℕ)) (xs : List X) (w : List ℕ) (x : X) (on : List X → Step) (t : Survey) → adding room names xs w x on ≡ go t → (has w names ≡ false) × (on (xs ++ x ∷ []) ≡ go t)
+added room names xs w x on t e =
+    let p = demanded (not (has w names)) GivenTwice (demand (ltb (length xs) room) ListFull (on (xs ++ x ∷ []))) t e in
+    (not-true (has w names) p.0, (demanded (ltb (length xs) room) ListFull (on (xs ++ x ∷ [])) t p.1).1)
 
 tally_of : (s t : Survey) → go s ≡ go t → s.tally ≡ t.tally
 tally_of s t e = let q : s ≡ t = cc in ap (λ (v : Survey). v.tally) q
@@ -85,7 +88,7 @@ module _ (l u : ℕ) where
   put_tally s (Some w) n t e =
       let m = mark w s.tally.section (extent s.tally s.tally.section) in
       let on : List Mark → Step = λ ls. go (surveyed (grown s.tally n) ls s.units) in
-      added l (map (λ (v : Mark). v.name) s.labels) s.labels w m on t e (λ e₁. tally_of (surveyed (grown s.tally n) (s.labels ++ m ∷ []) s.units) t e₁)
+      tally_of (surveyed (grown s.tally n) (s.labels ++ m ∷ []) s.units) t (added l (map (λ (v : Mark). v.name) s.labels) s.labels w m on t e).1
 
   taken_counts : (s : Survey) (f : Form) (t : Survey) → taken l u s f ≡ go t → Counted s.tally t.tally f
   taken_counts s foul t e = clash t LineBytes e
@@ -104,21 +107,21 @@ module _ (l u : ℕ) where
   taken_counts s (unit w m r) t e =
       let v = entry w 0 (octet m) (octet r) in
       let on : List Entry → Step = λ us. go (surveyed s.tally s.labels us) in
-      demanded (not s.tally.begun) LateUnit (declaring l u s w (octet m) (octet r)) t e (λ e₁.
-      added u (map (λ (x : Entry). x.name) s.units) s.units w v on t e₁ (λ e₂.
-      counted_none s.tally t.tally (unit w m r) (tally_of (surveyed s.tally s.labels (s.units ++ v ∷ [])) t e₂) refl refl))
+      let p = demanded (not s.tally.begun) LateUnit (declaring l u s w (octet m) (octet r)) t e in
+      let q = added u (map (λ (x : Entry). x.name) s.units) s.units w v on t p.1 in
+      counted_none s.tally t.tally (unit w m r) (tally_of (surveyed s.tally s.labels (s.units ++ v ∷ [])) t q.1) refl refl
   taken_counts s (instruction w op is) t e =
       let n = length (cells (instruction w op is)) in
-      demanded (is_code s.tally.section) WrongSection (putting l u s w n) t e (λ e₁. counted_put s.tally t.tally (instruction w op is) (put_tally s w n t e₁) refl)
+      counted_put s.tally t.tally (instruction w op is) (put_tally s w n t (demanded (is_code s.tally.section) WrongSection (putting l u s w n) t e).1) refl
   taken_counts s (words w ts) t e =
       let n = length (cells (words w ts)) in
-      demanded (not (is_code s.tally.section)) WrongSection (putting l u s w n) t e (λ e₁. counted_put s.tally t.tally (words w ts) (put_tally s w n t e₁) refl)
+      counted_put s.tally t.tally (words w ts) (put_tally s w n t (demanded (not (is_code s.tally.section)) WrongSection (putting l u s w n) t e).1) refl
   taken_counts s (copies w k z) t e =
       let n = length (cells (copies w k z)) in
-      demanded (not (is_code s.tally.section)) WrongSection (putting l u s w n) t e (λ e₁. counted_put s.tally t.tally (copies w k z) (put_tally s w n t e₁) refl)
+      counted_put s.tally t.tally (copies w k z) (put_tally s w n t (demanded (not (is_code s.tally.section)) WrongSection (putting l u s w n) t e).1) refl
 
   pub step_counts : (s : Survey) (f : Form) (t : Survey) → step l u s f ≡ go t → Counted s.tally t.tally f
-  step_counts s f t e = demanded (range f) NumberRange (taken l u s f) t e (taken_counts s f t)
+  step_counts s f t e = taken_counts s f t (demanded (range f) NumberRange (taken l u s f) t e).1
 
   -- lines add their cells to the sections that they are in
   pub survey_counts : (k : ℕ) (s : Survey) (fs : List Form) (t : Survey) → survey l u k s fs ≡ done t → (q : Section) → extent t.tally q ≡ extent s.tally q + length (items_in q s.tally.section fs)

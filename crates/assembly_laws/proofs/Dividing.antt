@@ -2,7 +2,6 @@
 use Rattle.std.proofs.Common.{◌≡◌, ℕ, suc, ◌+◌, ◌-◌, ◌≤◌, Bool, true, false, cond, not, List, [], ◌∷◌, ◌++◌, map, length, get_or, drop, ℤ, pos, Some, None, sym, refl, ap, ◌∙◌, subst, append_assoc, arith, length-append}
 use Rattle.std.proofs.lemmas.List.{append-nil, drop_at, drop-drop, get_or-drop, length-drop, length-map, map-append}
 use Rattle.std.proofs.lemmas.Bool.{le-leb, lt-ltb}
-use Rattle.program.specs.declared.fault.AssemblyCause.{AssemblyCause}
 use Rattle.program.specs.declared.fault.AssemblyCause.TheVariants.{NumberRange, WrongSection}
 use Rattle.program.specs.declared.section.Section.{Section}
 use Rattle.program.specs.declared.section.Section.TheVariants as S
@@ -16,8 +15,8 @@ use Rattle.syntax.specs.Forms.{Item, value, Form, foul, unfit, empty, section, u
 use Rattle.syntax.specs.Ranges.{range}
 use Rattle.assembler.specs.Cells.{cell, items_in, same_section, following_section}
 use Rattle.assembler.specs.Marks.{Mark}
-use Rattle.assembler.specs.Survey.{Survey, Step, go, stop, demand, is_code, putting, taken, step, done, fault, survey}
-use Rattle.assembler.proofs.Sizes.{step_counts}
+use Rattle.assembler.specs.Survey.{Survey, Step, go, stop, is_code, putting, taken, step, done, fault, survey}
+use Rattle.assembler.proofs.Sizes.{demanded, step_counts}
 use Rattle.assembler.proofs.Written.{items_on, opcode_cell}
 use Rattle.assembly_laws.proofs.Fitting.{Fits, fits_form}
 
@@ -117,14 +116,6 @@ off_code S.Heap e = refl
 
 runs_off : (p : Section) (is : List Item) → not (is_code p) ≡ true → Runs (cond (same_section S.Code p) is [])
 runs_off p is e = subst (λ b. Runs (cond b is [])) (sym (off_code p e)) runs_none
-
-clash : {A : Type 0} (t : Survey) (c : AssemblyCause) → stop c ≡ go t → A
-clash t c e = let z : ◌≡◌ {A = ℕ} 0 1 = cc in absurd (omega arith)
-
--- what was demanded held
-pub demanded : (b : Bool) (c : AssemblyCause) (x : Step) (t : Survey) → demand b c x ≡ go t → (b ≡ true) × (x ≡ go t)
-demanded true c x t e = (refl, e)
-demanded false c x t e = clash t c e
 
 module _ (l u : ℕ) where
   taken_runs : (s : Survey) (f : Form) (t : Survey) → Fits f → taken l u s f ≡ go t → Runs (cond (same_section S.Code s.tally.section) (cells f) [])

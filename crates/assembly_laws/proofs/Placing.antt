@@ -1,10 +1,9 @@
 -- The labels of surveyed lines: each stands where the items of its line begin, and no two have one name.
-use Rattle.std.proofs.Common.{◌≡◌, ℕ, suc, ◌+◌, Bool, true, false, cond, not, eqb, ltb, List, [], ◌∷◌, ◌++◌, map, length, Some, None, Option, sym, refl, ap, ◌∙◌, subst, append_assoc, arith, length-append}
+use Rattle.std.proofs.Common.{◌≡◌, ℕ, suc, ◌+◌, Bool, true, false, cond, not, eqb, List, [], ◌∷◌, ◌++◌, map, length, Some, None, Option, sym, refl, ap, ◌∙◌, subst, append_assoc, arith, length-append}
 use Rattle.std.proofs.lemmas.List.{append-nil, map-append}
-use Rattle.std.proofs.lemmas.Bool.{eq-eqb, eqb-false, eqb-true, ne_eqb, not-true}
+use Rattle.std.proofs.lemmas.Bool.{eq-eqb, eqb-false, eqb-true, ne_eqb}
 use Rattle.program.specs.Names.{same}
-use Rattle.program.specs.declared.fault.AssemblyCause.{AssemblyCause}
-use Rattle.program.specs.declared.fault.AssemblyCause.TheVariants.{LineBytes, NoForm, NumberRange, LateUnit, WrongSection, GivenTwice, ListFull}
+use Rattle.program.specs.declared.fault.AssemblyCause.TheVariants.{LineBytes, NoForm, NumberRange, LateUnit, WrongSection}
 use Rattle.program.specs.declared.section.Section.{Section}
 use Rattle.program.specs.declared.section.Section.TheVariants as S
 use Rattle.syntax.specs.Cells.{cells}
@@ -14,12 +13,11 @@ use Rattle.syntax.specs.Ranges.{range}
 use Rattle.assembler.specs.declared.tally.Tally.{Tally}
 use Rattle.assembler.specs.Cells.{items_in, same_section, following_section}
 use Rattle.assembler.specs.Marks.{Mark, mark, Entry, entry, has}
-use Rattle.assembler.specs.Survey.{Survey, surveyed, Step, go, stop, demand, extent, octet, is_code, grown, entered, adding, putting, declaring, taken, step, done, fault, survey}
+use Rattle.assembler.specs.Survey.{Survey, surveyed, Step, go, stop, extent, octet, is_code, grown, entered, putting, declaring, taken, step, done, fault, survey}
 use Rattle.assembler.proofs.Adding.{has_no, has_yes}
-use Rattle.assembler.proofs.Sizes.{step_counts}
+use Rattle.assembler.proofs.Sizes.{added, clash, demanded, step_counts}
 use Rattle.assembler.proofs.Written.{items_on}
 use Rattle.assembly_laws.specs.Laws.{Each, Distinct, label_in}
-use Rattle.assembly_laws.proofs.Dividing.{demanded}
 
 pub each_append : {X : Type 0} (P : X → Type 0) (xs ys : List X) → Each P xs → Each P ys → Each P (xs ++ ys)
 each_append P [] ys f g = g
@@ -94,11 +92,6 @@ adds_none s t f e = record {
   distinct = λ d. subst (λ ls. Distinct (map (λ (l : Mark). l.name) ls)) (sym e) d;
 }
 
-added : {X : Type 0} (room : ℕ) (ns : List (List ℕ)) (xs : List X) (w : List ℕ) (x : X) (on : List X → Step) (t : Survey) → adding room ns xs w x on ≡ go t → (has w ns ≡ false) × (on (xs ++ x ∷ []) ≡ go t)
-added room ns xs w x on t e =
-    let p = demanded (not (has w ns)) GivenTwice (demand (ltb (length xs) room) ListFull (on (xs ++ x ∷ []))) t e in
-    (not-true (has w ns) p.0, (demanded (ltb (length xs) room) ListFull (on (xs ++ x ∷ [])) t p.1).1)
-
 module _ (l u : ℕ) where
   put_adds : (s : Survey) (w : Option (List ℕ)) (n : ℕ) (t : Survey) (f : Form) → label_in f ≡ w → putting l u s w n ≡ go t → Adds s t f
   put_adds s None n t f g e = adds_none s t f (labels_of (surveyed (grown s.tally n) s.labels s.units) t e)
@@ -113,9 +106,6 @@ module _ (l u : ℕ) where
         given = (record { gives = g; placed = refl; at = refl }, tt);
         distinct = λ d. subst Distinct (sym (ap (map (λ (v : Mark). v.name)) q ∙ map-append (λ (v : Mark). v.name) s.labels (m ∷ []))) (distinct_more (map (λ (v : Mark). v.name) s.labels) w d p.0);
       }
-
-  clash : {A : Type 0} (t : Survey) (c : AssemblyCause) → stop c ≡ go t → A
-  clash t c e = let z : ◌≡◌ {A = ℕ} 0 1 = cc in absurd (omega arith)
 
   taken_adds : (s : Survey) (f : Form) (t : Survey) → taken l u s f ≡ go t → Adds s t f
   taken_adds s foul t e = clash t LineBytes e
