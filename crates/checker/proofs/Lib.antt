@@ -1,3 +1,4 @@
 pub mod Marks
 pub mod Works
 pub mod Outcomes
+pub mod Within

@@ -1,5 +1,5 @@
 -- The steps of the work.
-use Rattle.std.proofs.Common.{◌≡◌, ℕ, zero, suc, ◌+◌, ◌<◌, ◌≤◌, ◌⊎◌, List, [], ◌∷◌, ◌++◌, length, get_or, set, ℤ, pos, Some, None, Option, sym, refl, ap, ◌∙◌, subst, inl, inr, ⊎_elim, arith}
+use Rattle.std.proofs.Common.{◌≡◌, ℕ, zero, suc, ◌+◌, ◌<◌, ◌≤◌, ◌⊎◌, List, [], ◌∷◌, ◌++◌, length, get_or, set, ℤ, pos, Some, None, Ok, Err, Option, Result, MatchResult, sym, refl, ap, ◌∙◌, subst, inl, inr, ⊎_elim, arith}
 use Rattle.std.specs.List.{AllByRecursion}
 use Rattle.std.proofs.lemmas.List.{get_or-set_same, get_or-set_other, length_push, get_or_push, get_or_append_left}
 use Rattle.std.proofs.lemmas.Bool.{cases_lt, cases_eq}
@@ -8,18 +8,23 @@ use Rattle.program.specs.declared.fault.CheckCause.TheVariants.{TableSize, Memor
 use Rattle.program.specs.declared.unit.Unit.{Unit as UnitRecord}
 use Rattle.isa.specs.declared.instruction.Instruction.{Instruction}
 use Rattle.isa.specs.Code.{instruction, Divided}
+use Rattle.plan.specs.declared.next.Next.{Next}
 use Rattle.plan.specs.declared.planned.Planned.{Planned}
-use Rattle.plan.specs.declared.ruling.Ruling.TheVariants.{Last, Onward, Fork}
 use Rattle.plan.specs.declared.successor.Successor.{Successor}
 use Rattle.plan.specs.Programs.{Program, Listed, Opens, Sits}
-use Rattle.plan.specs.Rules.{Steps, to as goes}
+use Rattle.plan.specs.Rules.{Steps}
 use Rattle.plan.specs.Lawful.{Plan, planned, Has, Holds, main, unit, Lawful, Least, Table, plan_of}
 use Rattle.plan.specs.Walks.{In, on}
 use Rattle.plan.specs.Causes.{AtPlace, Due, Turn, Sound}
-use Rattle.plan.specs.Rulings.{Ruled, LowIn}
+use Rattle.plan.specs.Rulings.{Ruling, successors, Ruled, LowIn}
 use Rattle.plan.proofs.Dividing.{scan_none}
 use Rattle.plan.proofs.Walking.{all_in, walk_planned, walk_low}
-use Rattle.checker.specs.Work.{SetAt, filled, places_in, Route, Reached, Base, Grows, Arrived, Done, Rooted}
+use Rattle.checker.specs.declared.finding.Finding.{Finding}
+use Rattle.checker.specs.declared.work.Work.{Work}
+use Rattle.checker.specs.Progress.{judged, places, came, Moved}
+use Rattle.std.specs.Option.{IsSome}
+use Rattle.std.specs.Result.{IsOk, IsErrAnd}
+use Rattle.checker.specs.Work.{SetAt, filled, places_in, places_of, Route, Reached, Base, Grows, Arrived, Done, Rooted}
 
 filled_le : (o : Option Planned) → filled o ≤ 1
 filled_le None = omega arith
@@ -62,9 +67,6 @@ all_grow : (t u : Table) (ws : List ℕ) → Grows t u → AllByRecursion (SetAt
 all_grow t u [] g h = tt
 all_grow t u (w ∷ ws) g h = ((h.0.0, g w h.0.0 h.0.1), all_grow t u ws g h.1)
 
-pub route_grow : (P : Program) (t u : Table) (to : ℤ) (b h : ℕ) → Grows t u → Route P t to b h → Route P u to b h
-route_grow P t u to b h g r = (r.0, r.1, all_grow t u r.0 g r.2)
-
 pub holds_grow : (t u : Table) (b : ℕ) (s : Successor) → Grows t u → Holds (plan_of t) b s → Holds (plan_of u) b s
 holds_grow t u b s g h = (h.0, h.1, g h.0 (planned b s.depth) h.2)
 
@@ -78,9 +80,6 @@ done_grow P t u a g x d s e =
     let r = d s (x.1 ∙ ap Some (sym q)) in (r.0, r.1, alls_grow t u s.body r.0 g r.2)
 
 module _ (P : Program) where
-  pub arrived_same : (t : Table) (q : List ℕ) → Base P t q → Arrived P t t q q
-  arrived_same t q b = record { base = b; grows = λ a s h. h; longer = record { more = omega arith; same = λ j h. refl } }
-
   pub arrived_trans : (t u v : Table) (q r s : List ℕ) → Arrived P t u q r → Arrived P u v r s → Arrived P t v q s
   arrived_trans t u v q r s x y =
       record {
@@ -177,14 +176,8 @@ module _ (P : Program) where
   pub depth_low : (t : Table) (q : List ℕ) → Base P t q → (a : ℕ) (s : Planned) → get_or t a None ≡ Some s → s.depth ≤ 1000
   depth_low t q b a s e = let w = b.reached a s e in walk_low P w.0 (pos a) s.body s.depth w.1
 
-  pub steps_last : (a b h : ℕ) (i : Instruction) → instruction P.code a ≡ Some i → Ruled P a b h i Last → Steps P a b h []
-  steps_last a b h i e j = record { what = i; is = e; rule = j; low = tt }
-
-  pub steps_onward : (a b h : ℕ) (i : Instruction) (s : Successor) → instruction P.code a ≡ Some i → Ruled P a b h i (Onward s) → LowIn (Onward s) → Steps P a b h (s ∷ [])
-  steps_onward a b h i s e j l = record { what = i; is = e; rule = j; low = (l, tt) }
-
-  pub steps_fork : (a b h : ℕ) (i : Instruction) (s r : Successor) → instruction P.code a ≡ Some i → Ruled P a b h i (Fork s r) → LowIn (Fork s r) → Steps P a b h (s ∷ r ∷ [])
-  steps_fork a b h i s r e j l = record { what = i; is = e; rule = j; low = (l.0, (l.1, tt)) }
+  pub steps_to : (a : ℕ) (s : Planned) (n m : Next) → n ≡ m → Steps P a s.body s.depth (successors n) → Steps P a s.body s.depth (successors m)
+  steps_to a s n m e st = subst (λ (x : Next). Steps P a s.body s.depth (successors x)) e st
 
   pub seat_instruction : (a : ℕ) → Sits P a → Divided P.code → None ≡ instruction P.code a → ⊥
   seat_instruction a s d e = scan_none P.code a (length P.code) s.inside s.divides e d
@@ -201,16 +194,20 @@ module _ (P : Program) where
   due_held TooDeep t x = x
   due_held DifferentWays t x = absurd x.holds
 
+  -- of the ruling at a place: the step that it gives, or its cause
+  pub ruling_said : (t : Table) (q : List ℕ) → Base P t q → (a : ℕ) (s : Planned) → get_or t a None ≡ Some s → (i : Instruction) → instruction P.code a ≡ Some i → (r : Ruling) → Ruled P a s.body s.depth i r → LowIn r →
+      MatchResult r (λ n. Steps P a s.body s.depth (successors n)) (λ c. Due P c (pos a))
+  ruling_said t q b a s e i is (Ok n) g l = record { what = i; is = is; rule = g; low = l }
+  ruling_said t q b a s e i is (Err c) g l =
+      let w = b.reached a s e in
+      due_held c (pos a) (record { a = a; b = s.body; h = s.depth; i = i; address = refl; walked = (w.0, w.1); sits = b.seated a s e; is = is; holds = g })
+
   pub rooted : (t : Table) → Has (plan_of t) 0 0 0 → ((k : ℕ) (v : UnitRecord) → Listed P.units k v → Has (plan_of t) (v.entry + 3) (suc k) 0) → Rooted P t
   rooted t z f a b main = z
   rooted t z f a b (unit k v l) = f k v l
 
   pub rooted_grow : (t u : Table) → Grows t u → Rooted P t → Rooted P u
   rooted_grow t u g r a b x = g a (planned b 0) (r a b x)
-
-  -- one more unit has its root
-  pub unit_rooted : (u : Table) (to : ℤ) (k n : ℕ) (w : UnitRecord) → to ≡ pos (w.entry + 3) → n ≡ suc k → Holds (plan_of u) n (goes to 0) → Has (plan_of u) (w.entry + 3) (suc k) 0
-  unit_rooted u to k n w e m h = let f = h.1 in let x : h.0 ≡ w.entry + 3 = cc in subst (λ (z : ℕ). Has (plan_of u) (w.entry + 3) z 0) m (subst (λ (z : ℕ). Has (plan_of u) z n 0) x h.2)
 
   -- one more address is done
   module _ (t u : Table) (q r : List ℕ) (i a : ℕ) where
@@ -250,3 +247,32 @@ turned P ShallowDepth t s d = s
 turned P OutsideFrame t s d = s
 turned P TooDeep t s d = s
 turned P DifferentWays t s d = s
+
+-- a call that cannot fail
+pub there : {X : Type 0} (o : Option X) → (None ≡ o → ⊥) → IsSome o
+there None f = absurd (f refl)
+there (Some x) f = refl
+
+pub passes : {X Y : Type 0} (r : Result X Y) (P : X → Type 0) (Q : Y → Type 0) → MatchResult r P Q → ((y : Y) → Q y → ⊥) → IsOk r
+passes (Ok x) P Q m f = refl
+passes (Err y) P Q m f = absurd (f y m)
+
+-- what is said of a result, of the one that `map_err` makes of it
+pub mapped : {X Y Z : Type 0} (r : Result X Y) (q : Result X Z) (P : X → Type 0) (Q : Y → Type 0) (R : Z → Type 0) (L : Y → Z → Type 0) → MatchResult r (λ x. q ≡ Ok x) (λ y. IsErrAnd q (L y)) → MatchResult r P Q → ((y : Y) (z : Z) → L y z → Q y → R z) → MatchResult q P R
+mapped (Ok x) q P Q R L m p f = subst (λ u. MatchResult u P R) (sym m) p
+mapped (Err y) (Ok x) P Q R L m p f = absurd m
+mapped (Err y) (Err z) P Q R L m p f = f y z m p
+
+-- what calls say of the program that they are handed, of the program that it is
+pub moved_back : (P : Program) (v w : Work) → Moved (judged v) v w → judged v ≡ P → Moved P v w
+moved_back P v w m e = subst (λ (Q : Program). Moved Q v w) e m
+
+pub moved_trans : (P : Program) (u v w : Work) → Moved P u v → Moved (judged v) v w → Moved P u w
+moved_trans P u v w a b =
+    let c = moved_back P v w b a.is in
+    record { is = c.is; marked = c.marked; arrived = arrived_trans P (places u) (places v) (places w) (came u) (came v) (came w) a.arrived c.arrived }
+
+-- at the end of the work, on the table t that was lent to it
+pub explored : (P : Program) (t u : Table) (r : Result (Unit {0}) Finding) → t ≡ u → Sound P → MatchResult r (λ _. Least P (plan_of (places_of u))) (λ f. Due P f.cause f.address) → MatchResult r (λ _. Least P (plan_of (places_of t))) (λ f. Due P f.cause f.address × Turn P f.cause)
+explored P t u (Ok x) e s m = subst (λ (z : Table). Least P (plan_of (places_of z))) (sym e) m
+explored P t u (Err f) e s m = (m, turned P f.cause f.address s m)

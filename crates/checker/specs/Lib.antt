@@ -1,3 +1,4 @@
 pub mod Starting
 pub mod Work
 pub mod Verdict
+pub mod Progress

@@ -3,54 +3,38 @@ ghost use Rattle.checker.specs.Verdict.{Answered};
 ghost use Rattle.checker.specs.Work.{places_of};
 ghost use Rattle.plan.specs.Causes.{Due, Turn};
 ghost use Rattle.plan.specs.Lawful.{Least, plan_of};
-ghost use Rattle.plan.specs.Programs.{coded};
+ghost use Rattle.plan.specs.Programs.{seen};
 ghost use Rattle.program.specs.declared.fault.Fault.TheVariants.{Check};
 
 use crate::division::{mark, unmark};
 use crate::finding::Finding;
-use crate::openings::bad_entry;
 use crate::passed::Passed;
-use crate::walking::{begin, drain};
-use plan::Planned;
+use crate::work::Work;
+use plan::{Coded, Planned};
 use program::{Assembled, CheckCause, Counts, Fault, Place, Refused, Unit};
 use slots::SlotList;
 
 // Makes the least lawful plan in a table that is unset, or finds why there is none. Marks are left beside the places.
-fn explore(
-    code: &[i32],
-    units: &[Unit],
-    plan: &mut [Option<Planned>],
-    visits: &mut [u32],
-) -> Result<(), Finding>
-    requires small { length code.now ≤ 65536 }
-    requires few { length units.now ≤ 64 }
-    requires table { length code.now ≤ length plan.old }
-    requires slots { length code.now ≤ length visits.old }
+fn explore(program: &Coded, plan: &mut [Option<Planned>], visits: &mut [u32]) -> Result<(), Finding>
+    requires small { length program.now.code.now ≤ 65536 }
+    requires few { length program.now.units.now ≤ 64 }
+    requires table { length program.now.code.now ≤ length plan.old }
+    requires slots { length program.now.code.now ≤ length visits.old }
     requires unset { (a : ℕ) → slice_index_or plan.old a None ≡ None }
-    ensures { MatchResult result (λ _. Least (coded code.now units.now) (plan_of (places_of plan.new))) (λ f. Due (coded code.now units.now) f.cause f.address × Turn (coded code.now units.now) f.cause) }
+    ensures { MatchResult result (λ _. Least (seen program.now) (plan_of (places_of plan.new))) (λ f. Due (seen program.now) f.cause f.address × Turn (seen program.now) f.cause) }
 {
-    if let Some(a) = mark(code, plan) {
-        return Err(Finding {
-            cause: CheckCause::NoDivision,
-            address: a as i64,
-        });
-    }
-    if let Some(e) = bad_entry(code, units, plan) {
-        return Err(Finding {
-            cause: CheckCause::BadEntry,
-            address: e as i64,
-        });
-    }
-    let mut list = SlotList::new(visits, code.len());
-    begin(code, units, plan, &mut list)?;
-    drain(code, units, plan, &mut list)
-}
-
-// Unsets every place of a table.
-fn unset(plan: &mut [Option<Planned>])
-    ensures { plan.new ≡ replicate (length plan.old) None }
-{
-    plan.fill(None);
+    mark(program, plan).map_err(|a| Finding {
+        cause: CheckCause::NoDivision,
+        address: a as i64,
+    })?;
+    let mut list = SlotList::new(visits, program.code.len());
+    let mut work = Work::new(*program, plan, &mut list);
+    work.units_open().map_err(|e| Finding {
+        cause: CheckCause::BadEntry,
+        address: i64::from(e),
+    })?;
+    work.begin()?;
+    work.drain()
 }
 
 // Makes every number 0.
@@ -89,8 +73,12 @@ pub fn check(
     if memory.len() != counts.cells {
         return Err(refuse(program, CheckCause::MemoryLength, Place::Nowhere));
     }
-    unset(plan);
-    let answer = explore(&memory[0..code], &units[0..count], plan, visits);
+    let coded = Coded {
+        code: &memory[0..code],
+        units: &units[0..count],
+    };
+    plan.fill(None);
+    let answer = explore(&coded, plan, visits);
     zero(visits);
     match answer {
         Ok(()) => {
@@ -98,7 +86,7 @@ pub fn check(
             Ok(Passed { program })
         }
         Err(finding) => {
-            unset(plan);
+            plan.fill(None);
             Err(refuse(program, finding.cause, Place::Address(finding.address)))
         }
     }

@@ -10,6 +10,7 @@ mod passed;
 mod passing;
 mod starting;
 mod walking;
+mod work;
 
 pub use checking::check;
 pub use passed::Passed;

@@ -1,93 +1,71 @@
 // The units: their entries and openings.
-ghost use Rattle.std.specs.Prelude.{◌^◌, ◌<◌, ◌≤◌, length, pos, Decides, MatchOption};
-ghost use Rattle.checker.specs.Work.{Marked};
+ghost use Rattle.std.specs.Prelude.{◌^◌, ◌<◌, pos, Decides, MatchResult};
+ghost use Rattle.checker.specs.Progress.{Ready, judged};
 ghost use Rattle.plan.specs.Causes.{BadUnit};
-ghost use Rattle.plan.specs.Programs.{coded, InOpening, OpeningAt, Alone, Opens, Opened, Sits};
+ghost use Rattle.plan.specs.Programs.{InOpening, OpeningAt, Alone, Opens, Opened, Sits};
 
-use crate::division::begins;
+use crate::work::Work;
 use isa::Opcode;
-use plan::{Planned, opcode_at};
+use plan::Coded;
 use program::Unit;
 
 // Does an address lie in the opening of a unit?
-pub(crate) fn in_opening(units: &[Unit], a: usize) -> bool
+fn in_opening(units: &[Unit], a: usize) -> bool
     ensures { Decides result (InOpening units.now a) }
 {
-    for v in units {
-        let e = v.entry as usize;
-        if e <= a && a < e + 3 {
-            return true;
-        }
-    }
-    false
-}
-
-// May an address have a place: does it begin an instruction, outside all openings?
-pub(crate) fn sits(code: &[i32], units: &[Unit], plan: &[Option<Planned>], a: usize) -> bool
-    requires table { length code.now ≤ length plan.now }
-    requires marked { Marked code.now plan.now }
-    ensures { Decides result (Sits (coded code.now units.now) a) }
-{
-    begins(code, plan, a) && !in_opening(units, a)
+    units
+        .iter()
+        .any(|v| v.entry as usize <= a && a < v.entry as usize + 3)
 }
 
 // Does the opening stand at an address?
-fn has_opening(code: &[i32], e: usize) -> bool
+fn has_opening(program: &Coded, e: usize) -> bool
     requires { e < 2 ^ 32 }
-    ensures { Decides result (OpeningAt code.now e) }
+    ensures { Decides result (OpeningAt program.now.code.now e) }
 {
-    match opcode_at(code, e) {
-        Some(Opcode::Loadfp) => {}
-        _ => return false,
-    }
-    match opcode_at(code, e + 1) {
-        Some(Opcode::Loadsp) => {}
-        _ => return false,
-    }
-    match opcode_at(code, e + 2) {
-        Some(Opcode::Storefp) => true,
-        _ => false,
-    }
+    program.opcode_at(e) == Some(Opcode::Loadfp)
+        && program.opcode_at(e + 1) == Some(Opcode::Loadsp)
+        && program.opcode_at(e + 2) == Some(Opcode::Storefp)
 }
 
 // Has no unit but the k-th this entry?
 fn is_alone(units: &[Unit], k: usize, e: u32) -> bool
     ensures { Decides result (Alone units.now k e) }
 {
-    for (j, w) in units.iter().enumerate() {
-        if j != k && w.entry == e {
-            return false;
-        }
-    }
-    true
+    units
+        .iter()
+        .enumerate()
+        .all(|(j, w)| j == k || w.entry != e)
 }
 
-// Is the k-th unit good: does its entry begin an instruction, hold the opening, and belong to no other unit?
-fn opens(code: &[i32], units: &[Unit], plan: &[Option<Planned>], k: usize, v: Unit) -> bool
-    requires table { length code.now ≤ length plan.now }
-    requires marked { Marked code.now plan.now }
-    ensures { Decides result (Opens (coded code.now units.now) k v) }
-{
-    let e = v.entry as usize;
-    if !begins(code, plan, e) {
-        return false;
+impl Work<'_, '_> {
+    // May an address have a place: does it begin an instruction, outside all openings?
+    pub(crate) fn sits(&self, a: usize) -> bool
+        requires { Ready self.now }
+        ensures { Decides result (Sits (judged self.now) a) }
+    {
+        self.begins(a) && !in_opening(self.program.units, a)
     }
-    if !has_opening(code, e) {
-        return false;
-    }
-    is_alone(units, k, v.entry)
-}
 
-// The entry of the first bad unit, if there is one.
-pub(crate) fn bad_entry(code: &[i32], units: &[Unit], plan: &[Option<Planned>]) -> Option<u32>
-    requires table { length code.now ≤ length plan.now }
-    requires marked { Marked code.now plan.now }
-    ensures { MatchOption result (Opened (coded code.now units.now)) (λ e. BadUnit (coded code.now units.now) (pos e)) }
-{
-    for (k, v) in units.iter().enumerate() {
-        if !opens(code, units, plan, k, *v) {
-            return Some(v.entry);
-        }
+    // Is the k-th unit good: does its entry begin an instruction, hold the opening, and belong to no other unit?
+    fn opens(&self, k: usize, v: Unit) -> bool
+        requires { Ready self.now }
+        ensures { Decides result (Opens (judged self.now) k v) }
+    {
+        let e = v.entry as usize;
+        self.begins(e) && has_opening(&self.program, e) && is_alone(self.program.units, k, v.entry)
     }
-    None
+
+    // Are all units good? If not, the error is the entry of the first bad one.
+    pub(crate) fn units_open(&self) -> Result<(), u32>
+        requires { Ready self.now }
+        ensures { MatchResult result (λ _. Opened (judged self.now)) (λ e. BadUnit (judged self.now) (pos e)) }
+    {
+        for (k, v) in self.program.units.iter().enumerate() {
+            if !self.opens(k, *v) {
+                return Err(v.entry);
+            }
+        }
+        Ok(())
+    }
 }

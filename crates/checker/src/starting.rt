@@ -22,8 +22,5 @@ pub fn start(program: Passed, memory: &[i32]) -> Result<Machine, Refused<Passed>
     ensures { Started program memory.now result }
 {
     let Passed { program } = program;
-    match bench_start(program, memory) {
-        Ok(machine) => Ok(machine),
-        Err(back) => Err(still_passed(back)),
-    }
+    bench_start(program, memory).map_err(still_passed)
 }

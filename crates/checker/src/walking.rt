@@ -1,217 +1,135 @@
 // The walks from the roots, one address at a time.
+ghost use Rattle.std.specs.Prelude.{◌≡◌, ℕ, ◌<◌, length, pos, Some, None, MatchOption, MatchResult, slice_index_or};
+ghost use Rattle.checker.specs.Progress.{Ready, Moved, places, judged};
+ghost use Rattle.checker.specs.Work.{SetAt, Route, Done, Rooted};
 ghost use Rattle.isa.specs.Code.{Divided};
-ghost use Rattle.std.specs.Prelude.{◌≡◌, ℕ, ◌<◌, ◌≤◌, length, pos, Decides, MatchOption, MatchResult};
-ghost use Rattle.checker.specs.Work.{SetAt, Base, Route, Arrived, Done, Rooted, Marked, places_of};
 ghost use Rattle.plan.specs.Causes.{Due};
 ghost use Rattle.plan.specs.Lawful.{Holds, Least, plan_of};
-ghost use Rattle.plan.specs.Programs.{coded, Opened, Sits};
-ghost use Rattle.plan.specs.Rules.{to as goes};
-ghost use Rattle.slots.specs.Items.{items, room};
+ghost use Rattle.plan.specs.Programs.{Opened, Sits};
+ghost use Rattle.plan.specs.Rules.{Steps, to as goes};
+ghost use Rattle.plan.specs.Rulings.{successors};
 
-use crate::division::place_at;
 use crate::finding::Finding;
-use crate::openings::sits;
+use crate::work::Work;
 use isa::instruction_at;
-use plan::{Planned, Ruling, Successor, rule_at};
-use program::{CheckCause, Unit};
-use slots::SlotList;
+use plan::{Next, Planned, Successor};
+use program::CheckCause;
 
-// The address as an index, if it lies in the code.
-fn index_in(code: &[i32], to: i64) -> Option<usize>
-    requires { length code.now ≤ 65536 }
-    ensures { MatchOption result ((a : ℕ) → to ≡ pos a → a < length code.now → ⊥) (λ a. (to ≡ pos a) × (a < length code.now)) }
-{
-    if to < 0 || to >= code.len() as i64 {
-        return None;
+impl Work<'_, '_> {
+    // The address, if it may have a place.
+    fn seat(&self, to: i64) -> Option<usize>
+        requires { Ready self.now }
+        ensures { MatchOption result ((a : ℕ) → to ≡ pos a → Sits (judged self.now) a → ⊥) (λ a. (to ≡ pos a) × Sits (judged self.now) a) }
+    {
+        let a = usize::try_from(to).ok()?;
+        self.sits(a).then_some(a)
     }
-    Some(to as usize)
-}
 
-// The address, if it may have a place.
-fn seat(code: &[i32], units: &[Unit], plan: &[Option<Planned>], to: i64) -> Option<usize>
-    requires small { length code.now ≤ 65536 }
-    requires table { length code.now ≤ length plan.now }
-    requires marked { Marked code.now plan.now }
-    ensures { MatchOption result ((a : ℕ) → to ≡ pos a → Sits (coded code.now units.now) a → ⊥) (λ a. (to ≡ pos a) × Sits (coded code.now units.now) a) }
-{
-    let Some(a) = index_in(code, to) else {
-        return None;
-    };
-    if sits(code, units, plan, a) {
-        Some(a)
-    } else {
-        None
-    }
-}
-
-fn same_planned(one: Planned, two: Planned) -> bool
-    ensures { Decides result (one ≡ two) }
-{
-    one.body == two.body && one.depth == two.depth
-}
-
-// Brings a walk to an address: it gets its place, or has it.
-fn arrive(
-    code: &[i32],
-    units: &[Unit],
-    plan: &mut [Option<Planned>],
-    list: &mut SlotList<u32>,
-    to: i64,
-    at: Planned,
-) -> Result<(), Finding>
-    requires small { length code.now ≤ 65536 }
-    requires table { length code.now ≤ length plan.old }
-    requires slots { length code.now ≤ room list.old }
-    requires marked { Marked code.now plan.old }
-    requires base { Base (coded code.now units.now) (places_of plan.old) (items list.old) }
-    requires route { Route (coded code.now units.now) (places_of plan.old) to at.body at.depth }
-    ensures room { room list.new ≡ room list.old }
-    ensures arrived { MatchResult result (λ _. Arrived (coded code.now units.now) (places_of plan.old) (places_of plan.new) (items list.old) (items list.new) × Holds (plan_of (places_of plan.new)) at.body (goes to at.depth) × Marked code.now plan.new) (λ f. Due (coded code.now units.now) f.cause f.address) }
-{
-    let Some(a) = seat(code, units, plan, to) else {
-        return Err(Finding {
-            cause: CheckCause::NoInstruction,
-            address: to,
-        });
-    };
-    match place_at(plan, a) {
-        Some(other) => {
-            if same_planned(other, at) {
+    // Brings a walk to an address: it gets its place, or has it.
+    fn arrive(&mut self, to: i64, at: Planned) -> Result<(), Finding>
+        requires ready { Ready self.old }
+        requires route { Route (judged self.old) (places self.old) to at.body at.depth }
+        ensures lender { self.new.plan.ghost_name ≡ self.old.plan.ghost_name }
+        ensures arrived { MatchResult result (λ _. Moved (judged self.old) self.old self.new × Holds (plan_of (places self.new)) at.body (goes to at.depth)) (λ f. Due (judged self.old) f.cause f.address) }
+    {
+        let Some(a) = self.seat(to) else {
+            return Err(Finding {
+                cause: CheckCause::NoInstruction,
+                address: to,
+            });
+        };
+        match self.place_at(a) {
+            Some(other) if other == at => Ok(()),
+            Some(_) => Err(Finding {
+                cause: CheckCause::DifferentWays,
+                address: to,
+            }),
+            None => {
+                self.plan[a] = Some(at);
+                self.list.push(a as u32).unwrap();
                 Ok(())
-            } else {
-                Err(Finding {
-                    cause: CheckCause::DifferentWays,
-                    address: to,
-                })
-            }
-        }
-        None => {
-            plan[a] = Some(at);
-            match list.push(a as u32) {
-                Ok(()) => Ok(()),
-                Err(_) => unreachable(),
             }
         }
     }
-}
 
-// Brings a walk on to a successor, in the same body.
-fn follow(
-    code: &[i32],
-    units: &[Unit],
-    plan: &mut [Option<Planned>],
-    list: &mut SlotList<u32>,
-    body: u8,
-    s: Successor,
-) -> Result<(), Finding>
-    requires small { length code.now ≤ 65536 }
-    requires table { length code.now ≤ length plan.old }
-    requires slots { length code.now ≤ room list.old }
-    requires marked { Marked code.now plan.old }
-    requires base { Base (coded code.now units.now) (places_of plan.old) (items list.old) }
-    requires route { Route (coded code.now units.now) (places_of plan.old) s.address body s.depth }
-    ensures room { room list.new ≡ room list.old }
-    ensures arrived { MatchResult result (λ _. Arrived (coded code.now units.now) (places_of plan.old) (places_of plan.new) (items list.old) (items list.new) × Holds (plan_of (places_of plan.new)) body s × Marked code.now plan.new) (λ f. Due (coded code.now units.now) f.cause f.address) }
-{
-    let depth = s.depth;
-    arrive(code, units, plan, list, s.address, Planned { body, depth })
-}
+    // Brings a walk on to a successor, in the same body.
+    fn follow(&mut self, body: u8, s: Successor) -> Result<(), Finding>
+        requires ready { Ready self.old }
+        requires route { Route (judged self.old) (places self.old) s.address body s.depth }
+        ensures lender { self.new.plan.ghost_name ≡ self.old.plan.ghost_name }
+        ensures arrived { MatchResult result (λ _. Moved (judged self.old) self.old self.new × Holds (plan_of (places self.new)) body s) (λ f. Due (judged self.old) f.cause f.address) }
+    {
+        let depth = s.depth;
+        self.arrive(s.address, Planned { body, depth })
+    }
 
-// Brings the walks to the place at an address on to its successors.
-fn visit(
-    code: &[i32],
-    units: &[Unit],
-    plan: &mut [Option<Planned>],
-    list: &mut SlotList<u32>,
-    address: u32,
-) -> Result<(), Finding>
-    requires small { length code.now ≤ 65536 }
-    requires table { length code.now ≤ length plan.old }
-    requires slots { length code.now ≤ room list.old }
-    requires marked { Marked code.now plan.old }
-    requires base { Base (coded code.now units.now) (places_of plan.old) (items list.old) }
-    requires inside { address < length code.now }
-    requires placed { SetAt (places_of plan.old) address }
-    requires divided { Divided code.now }
-    ensures room { room list.new ≡ room list.old }
-    ensures visited { MatchResult result (λ _. Arrived (coded code.now units.now) (places_of plan.old) (places_of plan.new) (items list.old) (items list.new) × Done (coded code.now units.now) (places_of plan.new) address × Marked code.now plan.new) (λ f. Due (coded code.now units.now) f.cause f.address) }
-{
-    let a = address as usize;
-    let Some(at) = place_at(plan, a) else {
-        return unreachable();
-    };
-    let Some(i) = instruction_at(code, a) else {
-        return unreachable();
-    };
-    match rule_at(code, units, address, at, i) {
-        Ruling::Refused(cause) => Err(Finding {
+    // What comes after the place at an address.
+    fn after(&self, address: u32, at: Planned) -> Result<Next, Finding>
+        requires ready { Ready self.now }
+        requires placed { slice_index_or (places self.now) address None ≡ Some at }
+        requires divided { Divided self.now.program.code.now }
+        ensures { MatchResult result (λ n. Steps (judged self.now) address at.body at.depth (successors n)) (λ f. Due (judged self.now) f.cause f.address) }
+    {
+        let program = self.program;
+        let i = instruction_at(program.code, address as usize).unwrap();
+        program.rule_at(address, at, i).map_err(|cause| Finding {
             cause,
-            address: address as i64,
-        }),
-        Ruling::Last => Ok(()),
-        Ruling::Onward(s) => follow(code, units, plan, list, at.body, s),
-        Ruling::Fork(s, t) => {
-            follow(code, units, plan, list, at.body, s)?;
-            follow(code, units, plan, list, at.body, t)
+            address: i64::from(address),
+        })
+    }
+
+    // Brings the walks to the place at an address on to its successors.
+    fn visit(&mut self, address: u32) -> Result<(), Finding>
+        requires ready { Ready self.old }
+        requires inside { address < length self.old.program.code.now }
+        requires placed { SetAt (places self.old) address }
+        requires divided { Divided self.old.program.code.now }
+        ensures lender { self.new.plan.ghost_name ≡ self.old.plan.ghost_name }
+        ensures visited { MatchResult result (λ _. Moved (judged self.old) self.old self.new × Done (judged self.old) (places self.new) address) (λ f. Due (judged self.old) f.cause f.address) }
+    {
+        let at = self.place_at(address as usize).unwrap();
+        let next = self.after(address, at)?;
+        match next {
+            Next::Last => Ok(()),
+            Next::Onward(s) => self.follow(at.body, s),
+            Next::Fork(s, t) => {
+                self.follow(at.body, s)?;
+                self.follow(at.body, t)
+            }
         }
     }
-}
 
-// Brings the walks of no step to the roots: 0, and the address after each opening.
-pub(crate) fn begin(
-    code: &[i32],
-    units: &[Unit],
-    plan: &mut [Option<Planned>],
-    list: &mut SlotList<u32>,
-) -> Result<(), Finding>
-    requires small { length code.now ≤ 65536 }
-    requires few { length units.now ≤ 64 }
-    requires table { length code.now ≤ length plan.old }
-    requires slots { length code.now ≤ room list.old }
-    requires marked { Marked code.now plan.old }
-    requires base { Base (coded code.now units.now) (places_of plan.old) (items list.old) }
-    ensures room { length code.now ≤ room list.new }
-    ensures begun { MatchResult result (λ _. Base (coded code.now units.now) (places_of plan.new) (items list.new) × Rooted (coded code.now units.now) (places_of plan.new) × Marked code.now plan.new) (λ f. Due (coded code.now units.now) f.cause f.address) }
-{
-    arrive(code, units, plan, list, 0, Planned { body: 0, depth: 0 })?;
-    for (k, v) in units.iter().enumerate() {
-        let to = v.entry as i64 + 3;
-        arrive(
-            code,
-            units,
-            plan,
-            list,
-            to,
-            Planned {
-                body: k as u8 + 1,
-                depth: 0,
-            },
-        )?;
+    // Brings the walks of no step to the roots: 0, and the address after each opening.
+    pub(crate) fn begin(&mut self) -> Result<(), Finding>
+        requires ready { Ready self.old }
+        ensures lender { self.new.plan.ghost_name ≡ self.old.plan.ghost_name }
+        ensures begun { MatchResult result (λ _. Moved (judged self.old) self.old self.new × Rooted (judged self.old) (places self.new)) (λ f. Due (judged self.old) f.cause f.address) }
+    {
+        let units = self.program.units;
+        self.arrive(0, Planned { body: 0, depth: 0 })?;
+        // Stays: `(1u8..).zip(units)` was tried, and what a step of it gives stayed open in the proof.
+        for (k, v) in units.iter().enumerate() {
+            let body = k as u8 + 1;
+            self.arrive(i64::from(v.entry) + 3, Planned { body, depth: 0 })?;
+        }
+        Ok(())
     }
-    Ok(())
-}
 
-// Visits each address of the list, in order, while the visits add to it.
-pub(crate) fn drain(
-    code: &[i32],
-    units: &[Unit],
-    plan: &mut [Option<Planned>],
-    list: &mut SlotList<u32>,
-) -> Result<(), Finding>
-    requires small { length code.now ≤ 65536 }
-    requires table { length code.now ≤ length plan.old }
-    requires slots { length code.now ≤ room list.old }
-    requires marked { Marked code.now plan.old }
-    requires base { Base (coded code.now units.now) (places_of plan.old) (items list.old) }
-    requires rooted { Rooted (coded code.now units.now) (places_of plan.old) }
-    requires divided { Divided code.now }
-    requires opened { Opened (coded code.now units.now) }
-    ensures { MatchResult result (λ _. Least (coded code.now units.now) (plan_of (places_of plan.new))) (λ f. Due (coded code.now units.now) f.cause f.address) }
-{
-    let mut i = 0;
-    while let Some(address) = list.get(i) {
-        visit(code, units, plan, list, address)?;
-        i += 1;
+    // Visits each address of the list, in order, while the visits add to it.
+    pub(crate) fn drain(&mut self) -> Result<(), Finding>
+        requires ready { Ready self.old }
+        requires rooted { Rooted (judged self.old) (places self.old) }
+        requires divided { Divided self.old.program.code.now }
+        requires opened { Opened (judged self.old) }
+        ensures lender { self.new.plan.ghost_name ≡ self.old.plan.ghost_name }
+        ensures drained { MatchResult result (λ _. Least (judged self.old) (plan_of (places self.new))) (λ f. Due (judged self.old) f.cause f.address) }
+    {
+        // Stays: the list grows while it is read, so no iterator over it can be held.
+        let mut i = 0;
+        while let Some(address) = self.list.get(i) {
+            self.visit(address)?;
+            i += 1;
+        }
+        Ok(())
     }
-    Ok(())
 }

@@ -1,11 +1,9 @@
 -- The cells that a lawful LOAD or STORE reaches.
-use Rattle.std.proofs.Common.{◌≡◌, ℕ, zero, suc, ◌+◌, ◌-◌, ◌<◌, ◌≤◌, ◌⊎◌, List, [], ◌∷◌, ℤ, pos, negsuc, ◌+ℤ◌, neg_ℤ, ◌≤ℤ◌, ◌<ℤ◌, sym, refl, ◌∙◌, inl, inr, arith}
+use Rattle.std.proofs.Common.{◌≡◌, ℕ, zero, suc, ◌+◌, ◌-◌, ◌<◌, ◌≤◌, ◌⊎◌, List, [], ◌∷◌, ℤ, pos, negsuc, ◌+ℤ◌, neg_ℤ, ◌≤ℤ◌, ◌<ℤ◌, refl, inl, inr, arith}
 use Rattle.std.proofs.lemmas.Int.{ints}
-use Rattle.std.proofs.lemmas.List.{get_or_default}
-use Rattle.program.specs.declared.unit.Unit.{Unit as UnitRecord}
-use Rattle.plan.specs.Programs.{Listed}
 use Rattle.plan.specs.Rules.{InFrame, InCall}
 use Rattle.plan.specs.Lawful.{Plan}
+use Rattle.plan.proofs.Listing.{listed_same}
 use Rattle.controller.proofs.Chain.{Box, Frame, Chain, lim, chain_top, chain_lim_top}
 
 pub record Reached (B : Box) (F : List Frame) (f sp : ℕ) (z : ℤ) : Type 0 where
@@ -19,15 +17,12 @@ reach_own : (B : Box) (F : List Frame) (f sp h : ℕ) (n : ℤ) → sp + h ≡ f
 reach_own B F f sp h (pos k) s t u v = record { j = f + k; is = refl; low = omega (arith, ints); high = omega (arith, ints); side = inl (omega (arith, ints)) }
 reach_own B F f sp h (negsuc k) s t u v = record { j = f - suc k; is = omega (arith, ints); low = omega (arith, ints); high = omega (arith, ints); side = inl (omega (arith, ints)) }
 
-pub same_unit : (us : List UnitRecord) (k : ℕ) (v w : UnitRecord) → Listed us k v → Listed us k w → v ≡ w
-same_unit us k v w a b = sym a.1 ∙ get_or_default us k v w a.0 ∙ b.1
-
 reach_arg : (B : Box) (p : Plan) (m : List ℤ) (F : List Frame) (f sp h b : ℕ) (n : ℤ) → sp + h ≡ f + 1 → Chain B p m F f b → InCall B.program.units b n → Reached B F f sp (pos f +ℤ n)
 reach_arg B p m F f sp h zero n s c a = absurd a
 reach_arg B p m [] f sp h (suc i) n s c a = absurd (omega arith)
 reach_arg B p m (g ∷ F) f sp h (suc i) (pos k) s c (v, w, lo, hi) =
     let q : i ≡ g.index = omega arith in
-    let e : v ≡ g.unit = same_unit B.program.units g.index v g.unit (rw q at w) c.3.listed in
+    let e : v ≡ g.unit = listed_same B.program.units g.index v g.unit (rw q at w) c.3.listed in
     let t : lim B (g ∷ F) ≤ B.size = chain_lim_top B p m (g ∷ F) f (suc i) c in
     let l : 3 ≤ k = omega (arith, ints) in
     let u : k ≤ v.arguments + 2 + v.results = omega (arith, ints) in

@@ -31,7 +31,8 @@ use Rattle.controller.proofs.Chain.{Box, Frame, lim, Calm, calm_same, calm_set, 
 use Rattle.controller.proofs.Inv.{Ground, Placed, Enters, Closes, Inv, calling, closes, same, After, Good, Late, uses_good, room_good, fine_good, either, at_place, act_good}
 use Rattle.controller.proofs.Inv as I
 use Rattle.controller.proofs.Late.{binary_late, unary_late, placed_late, lettered_late, referred_late, placed_ok, placed_at, referred_ok}
-use Rattle.controller.proofs.Reach.{Reached, reach, same_unit}
+use Rattle.plan.proofs.Listing.{listed_same}
+use Rattle.controller.proofs.Reach.{Reached, reach}
 
 -- an instruction that is neither CALL nor RET
 abbrev Quiet : Opcode → Type 0
@@ -199,7 +200,7 @@ ending B p law (g ∷ F) x gr s j v k at-pc e =
     let l : lim B (g ∷ F) ≤ B.size = chain_lim_top B p x.mem (g ∷ F) s.f s.b c in
     let d : x.reg.sp ≡ s.f + 1 = omega arith in
     let q : j ≡ g.index = omega arith in
-    let u : v ≡ g.unit = same_unit B.program.units g.index v g.unit (rw q at e.listed) c.3.listed in
+    let u : v ≡ g.unit = listed_same B.program.units g.index v g.unit (rw q at e.listed) c.3.listed in
     let y : Core = popped 1 (at_fp (top x) (at_pc (pos (s.a + 1)) x)) in
     uses_good B p (g ∷ F) x 1 (λ c. goes (popped 1 (at_fp (top c) c))) (at_pc (pos (s.a + 1)) x) (omega (arith, gr.len))
     (stays B p law (g ∷ F) x gr s O.Storefp k at-pc (refl, refl) y

@@ -1,33 +1,22 @@
 -- From the parts of a rule to what it says of a place.
-use Rattle.std.proofs.Common.{◌≡◌, ℕ, List, [], ◌∷◌, ℤ, sym, subst, inl, inr, arith}
+use Rattle.std.proofs.Common.{◌≡◌, ℕ, Ok, Err, sym, subst, inl, inr, arith}
 use Rattle.program.specs.declared.fault.CheckCause.{CheckCause}
-use Rattle.program.specs.declared.unit.Unit.{Unit as UnitRecord}
 use Rattle.isa.specs.declared.instruction.Instruction.{Instruction}
 use Rattle.plan.specs.declared.kind.Kind.{Kind}
 use Rattle.plan.specs.declared.kind.Kind.TheVariants.{Pushes}
-use Rattle.plan.specs.declared.ruling.Ruling.{Ruling}
-use Rattle.plan.specs.declared.ruling.Ruling.TheVariants.{Refused, Last, Onward, Fork}
 use Rattle.plan.specs.Kinds.{table, count, kind}
 use Rattle.plan.specs.Programs.{Program}
 use Rattle.plan.specs.Rules.{CallFollows, RuleOf}
 use Rattle.plan.specs.Causes.{Unruled, FewForCall, Holding}
-use Rattle.plan.specs.Rulings.{Ruled, Called, LowIn}
+use Rattle.plan.specs.Rulings.{Ruling, successors, Ruled, Called}
 use Rattle.plan.proofs.Rows.{Fixed, fixed}
 
 module _ (P : Program) (a b h : ℕ) (i : Instruction) (push : kind i.op ≡ Pushes) (follows : CallFollows P.code a) where
   -- what is said of a call holds of the PUSH
   pub called_ruled : (r : Ruling) → Called P.units a h i.argument r → Ruled P a b h i r
-  called_ruled (Refused c) (inl q) = subst (λ (x : CheckCause). Holding P a b h i x) (sym q.0) (subst (λ (x : Kind). Unruled P a b h i x) (sym push) (follows, q.1))
-  called_ruled (Refused c) (inr (inl q)) = subst (λ (x : CheckCause). Holding P a b h i x) (sym q.0) (inr (subst (λ (x : Kind). FewForCall P a h i x) (sym push) (follows, q.1)))
-  called_ruled (Refused c) (inr (inr q)) =
+  called_ruled (Err c) (inl q) = subst (λ (x : CheckCause). Holding P a b h i x) (sym q.0) (subst (λ (x : Kind). Unruled P a b h i x) (sym push) (follows, q.1))
+  called_ruled (Err c) (inr (inl q)) = subst (λ (x : CheckCause). Holding P a b h i x) (sym q.0) (inr (subst (λ (x : Kind). FewForCall P a h i x) (sym push) (follows, q.1)))
+  called_ruled (Err c) (inr (inr q)) =
       let e = subst (λ (k : Kind). Fixed k (table i.op (count i.argument))) push (fixed i.op (count i.argument)) in
       subst (λ (x : CheckCause). Holding P a b h i x) (sym q.0) (omega (arith, e.0), omega (arith, e.0, e.1, q.1))
-  called_ruled Last q = absurd q
-  called_ruled (Onward s) q = subst (λ (x : Kind). RuleOf P a b h i (s ∷ []) x) (sym push) (inl (follows, q.0))
-  called_ruled (Fork s t) q = absurd q
-
-pub called_low : (us : List UnitRecord) (a h : ℕ) (e : ℤ) (r : Ruling) → Called us a h e r → LowIn r
-called_low us a h e (Refused c) q = tt
-called_low us a h e Last q = tt
-called_low us a h e (Onward s) q = q.1
-called_low us a h e (Fork s t) q = absurd q
+  called_ruled (Ok n) q = subst (λ (x : Kind). RuleOf P a b h i (successors n) x) (sym push) (inl (follows, q.0))

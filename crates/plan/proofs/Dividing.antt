@@ -23,9 +23,11 @@ size_low op = omega (arith, cells_low (operand op))
 pub size_pos : (op : Opcode) → 0 < size op
 size_pos op = omega arith
 
-abbrev op_of : Option Instruction → Opcode → Opcode
-op_of None d = d
-op_of (Some i) d = i.op
+pub some_same : (i j : Instruction) → Some i ≡ Some j → i ≡ j
+some_same i j e = cc
+
+ops_same : (i j : Instruction) → Some i ≡ Some j → i.op ≡ j.op
+ops_same i j e = ap (λ (x : Instruction). x.op) (some_same i j e)
 
 module _ (code : List ℤ) (a : ℕ) (i : Instruction) where
   whole_fits : (o : Option Opcode) → whole code a o ≡ Some i → a + size i.op ≤ length code
@@ -33,7 +35,7 @@ module _ (code : List ℤ) (a : ℕ) (i : Instruction) where
   whole_fits (Some op) e = by (leb (a + 1 + operand_cells (operand op)) (length code)) refl e
     where
       by : (t : Bool) → leb (a + 1 + operand_cells (operand op)) (length code) ≡ t → cond t (Some (record { op = op; argument = argument (operand op) code a })) None ≡ Some i → a + size i.op ≤ length code
-      by true t e = let s : op ≡ i.op = ap (λ (x : Option Instruction). op_of x op) e in omega (arith, ap size s, leb-true (a + 1 + operand_cells (operand op)) (length code) t)
+      by true t e = let s : op ≡ i.op = ops_same (record { op = op; argument = argument (operand op) code a }) i e in omega (arith, ap size s, leb-true (a + 1 + operand_cells (operand op)) (length code) t)
       by false t e = let z : ◌≡◌ {A = ℕ} 0 1 = cc in absurd (omega arith)
 
   -- an instruction lies whole in the code
@@ -53,7 +55,7 @@ module _ (code : List ℤ) where
   unfolding Ends_by
   order_by x a i e h (inl s) f g = (i, ap (λ (z : ℕ). instruction code z) s ∙ e, omega arith)
   order_by x a i e h (inr (inl s)) f g = let r = f s in (r.0, r.1, omega (arith, r.2))
-  order_by x a i e h (inr (inr s)) f g = let r = g s in let u : i.op ≡ r.0.op = ap (λ (z : Option Instruction). op_of z i.op) (sym e ∙ r.1) in absurd (omega (arith, r.2, ap size u))
+  order_by x a i e h (inr (inr s)) f g = let r = g s in let u : i.op ≡ r.0.op = ops_same i r.0 (sym e ∙ r.1) in absurd (omega (arith, r.2, ap size u))
 
   -- of two addresses that the division comes to, the lower one's instruction ends before the other
   ordered : (n x y : ℕ) → y ≤ n → Divides code x → Divides code y → x < y → Ends_by x y
@@ -90,7 +92,7 @@ module _ (code : List ℤ) where
   scan_next a i r b e s = (subst (λ (n : ℕ). Divides code (a + n)) (sym s) (next a i b (sym e)), omega (arith, s, fits_in code a i (sym e)))
 
   pub scan_under : (a t : ℕ) (i : Instruction) (r : ℕ) → a < t → Divides code a → Some i ≡ instruction code a → r ≡ size i.op → Divides code t → a + r ≤ t
-  scan_under a t i r l b e s q = let o = divides_order a t b q l in let v : i.op ≡ o.0.op = ap (λ (z : Option Instruction). op_of z i.op) (e ∙ o.1) in omega (arith, s, o.2, ap size v)
+  scan_under a t i r l b e s q = let o = divides_order a t b q l in let v : i.op ≡ o.0.op = ops_same i o.0 (e ∙ o.1) in omega (arith, s, o.2, ap size v)
 
   pub scan_none : (a t : ℕ) → a < t → Divides code a → None ≡ instruction code a → Divides code t → ⊥
   scan_none a t l b e q = let o = divides_order a t b q l in none_some (instruction code a) o.0 (sym e) o.1

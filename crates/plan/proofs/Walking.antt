@@ -1,5 +1,5 @@
 -- Walks, lawful plans, and refusals.
-use Rattle.std.proofs.Common.{◌≡◌, ℕ, ◌+◌, ◌-◌, ◌≤◌, List, [], ◌∷◌, ℤ, pos, Some, None, Option, sym, refl, ap, ◌∙◌, subst, inl, inr, arith}
+use Rattle.std.proofs.Common.{◌≡◌, ℕ, ◌+◌, ◌-◌, ◌≤◌, List, [], ◌∷◌, ℤ, pos, sym, refl, ap, ◌∙◌, subst, inl, inr, arith}
 use Rattle.std.specs.List.{AllByRecursion}
 use Rattle.std.proofs.lemmas.Int.{ints}
 use Rattle.program.specs.declared.fault.CheckCause.{CheckCause}
@@ -17,7 +17,7 @@ use Rattle.plan.specs.Lawful.{Plan, Has, Holds, Lawful}
 use Rattle.plan.specs.Walks.{In, Walk, root, on}
 use Rattle.plan.specs.Causes.{Unruled, FewForCall, Outside, Holding, AtPlace, Due}
 use Rattle.plan.proofs.Listing.{listed_same}
-use Rattle.plan.proofs.Dividing.{stops_not}
+use Rattle.plan.proofs.Dividing.{some_same, stops_not}
 use Rattle.plan.proofs.Rows.{Fixed, fixed}
 
 pub all_in : {X : Type 0} (Q : X → Type 0) (xs : List X) (x : X) → AllByRecursion Q xs → In xs x → Q x
@@ -27,13 +27,6 @@ all_in Q (y ∷ ys) x h (inr i) = all_in Q ys x h.1 i
 
 pub pos_same : (a b : ℕ) → pos a ≡ pos b → a ≡ b
 pos_same a b e = cc
-
-abbrev somewhat : Option Instruction → Instruction → Instruction
-somewhat None d = d
-somewhat (Some i) d = i
-
-some_same : (i j : Instruction) → Some i ≡ Some j → i ≡ j
-some_same i j e = ap (λ (x : Option Instruction). somewhat x i) e
 
 abbrev row_of : Instruction → Row
 row_of i = table i.op (count i.argument)

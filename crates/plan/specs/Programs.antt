@@ -6,6 +6,7 @@ use Rattle.isa.specs.declared.opcode.Opcode.{Opcode}
 use Rattle.isa.specs.declared.opcode.Opcode.TheVariants.{Loadfp, Loadsp, Storefp}
 use Rattle.isa.specs.declared.instruction.Instruction.{Instruction}
 use Rattle.isa.specs.Code.{instruction, Divides}
+use Rattle.plan.specs.declared.coded.Coded.{Coded}
 
 -- the cells of its code, and its units in their order
 pub record Program : Type 0 where
@@ -14,6 +15,10 @@ pub record Program : Type 0 where
 
 abbrev pub coded : List ℤ → List UnitRecord → Program
 coded code us = record { code = code; units = us }
+
+-- the program whose code and units are lent
+abbrev pub seen : Coded → Program
+seen p = coded p.code.now p.units.now
 
 -- the program with these counts, in the memory and the unit table that are handed over
 abbrev pub program_of : Counts → List ℤ → List UnitRecord → Program

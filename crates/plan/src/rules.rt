@@ -1,22 +1,21 @@
 // The rules, as docs/CHECK.md lists them.
-ghost use Rattle.std.specs.Prelude.{◌≡◌, ℕ, ◌+◌, ◌-◌, ◌<◌, ◌≤◌, ℤ, pos, Some, None, Decides};
-ghost use Rattle.isa.specs.Table.{size};
+ghost use Rattle.std.specs.Prelude.{◌≡◌, ◌-◌, ◌<◌, ◌≤◌, Some, Ok, Err, Decides};
 ghost use Rattle.isa.specs.declared.opcode.Opcode.TheVariants.{Call};
 ghost use Rattle.plan.specs.Kinds.{table, count};
-ghost use Rattle.plan.specs.Programs.{coded, opcode_in};
+ghost use Rattle.plan.specs.Programs.{seen, opcode_in};
 ghost use Rattle.plan.specs.Rules.{to, after};
 ghost use Rattle.plan.specs.Rulings.{Ruled, Ontoed, Called, LowIn};
-ghost use Rattle.plan.specs.declared.ruling.Ruling.TheVariants.{Refused, Fork};
+ghost use Rattle.plan.specs.declared.next.Next.TheVariants.{Fork};
 ghost use Rattle.program.specs.declared.fault.CheckCause.TheVariants.{ShallowDepth};
 
+use crate::coded::Coded;
 use crate::kind::Kind;
+use crate::next::Next;
 use crate::planned::Planned;
 use crate::row::Row;
-use crate::ruling::Ruling;
 use crate::successor::Successor;
-use crate::units::{closes, in_frame, unit_at};
 use isa::{Instruction, Opcode, instruction_at, length_of};
-use program::{CheckCause, Unit};
+use program::CheckCause;
 
 fn row(uses: u32, gives: u32, kind: Kind) -> Row
     ensures { result ≡ record { uses = uses; gives = gives; kind = kind } }
@@ -70,126 +69,105 @@ pub fn row_of(op: Opcode, count: u32) -> Row
 fn count_in(cell: i32) -> u32
     ensures { result ≡ count cell }
 {
-    if cell < 0 { 0 } else { cell as u32 }
+    u32::try_from(cell).unwrap_or(0)
+}
+
+// The address after an instruction.
+fn address_after(address: u32, i: Instruction) -> i64
+    ensures { result ≡ after address i }
+{
+    i64::from(address) + length_of(i.op) as i64
 }
 
 // The next instruction follows, if the cells that are used are there.
-fn onto(address: u32, depth: u16, i: Instruction) -> Ruling
+fn onto(address: u32, depth: u16, i: Instruction) -> Result<Next, CheckCause>
     ensures { Ontoed address depth i result }
 {
     let row = row_of(i.op, count_in(i.argument));
-    let depth = depth as u32;
-    if depth < row.uses {
-        return Ruling::Refused(CheckCause::ShallowDepth);
-    }
-    let rest = depth - row.uses;
+    let rest = u32::from(depth)
+        .checked_sub(row.uses)
+        .ok_or(CheckCause::ShallowDepth)?;
     if row.gives > 1000 || rest + row.gives > 1000 {
-        return Ruling::Refused(CheckCause::TooDeep);
+        return Err(CheckCause::TooDeep);
     }
-    Ruling::Onward(Successor {
-        address: (address as usize + length_of(i.op)) as i64,
+    Ok(Next::Onward(Successor {
+        address: address_after(address, i),
         depth: (rest + row.gives) as u16,
-    })
-}
-
-// The opcode of the whole instruction at an address of the code.
-pub fn opcode_at(code: &[i32], address: usize) -> Option<Opcode>
-    ensures { result ≡ opcode_in code.now address }
-{
-    let i = instruction_at(code, address)?;
-    Some(i.op)
-}
-
-fn is_call(code: &[i32], address: usize) -> bool
-    ensures { Decides result (opcode_in code.now address ≡ Some Call) }
-{
-    match opcode_at(code, address) {
-        Some(Opcode::Call) => true,
-        _ => false,
-    }
-}
-
-// A call of the unit whose entry is pushed.
-fn call(units: &[Unit], address: u32, depth: u16, start: i32) -> Ruling
-    ensures { Called units.now address depth start result }
-{
-    let Some(v) = unit_at(units, start) else {
-        return Ruling::Refused(CheckCause::NoRule);
-    };
-    let depth = depth as u32;
-    if depth < v.arguments as u32 + v.results as u32 {
-        return Ruling::Refused(CheckCause::ShallowDepth);
-    }
-    if depth >= 1000 {
-        return Ruling::Refused(CheckCause::TooDeep);
-    }
-    Ruling::Onward(Successor {
-        address: (address as usize + 3) as i64,
-        depth: (depth - v.arguments as u32) as u16,
-    })
+    }))
 }
 
 // A branch to its target, or on.
-fn fork(address: u32, depth: u16, i: Instruction) -> Ruling
-    ensures { (depth < 1 → result ≡ Refused ShallowDepth) × (1 ≤ depth → result ≡ Fork (to i.argument (depth - 1)) (to (after address i) (depth - 1))) }
+fn fork(address: u32, depth: u16, i: Instruction) -> Result<Next, CheckCause>
+    ensures { (depth < 1 → result ≡ Err ShallowDepth) × (1 ≤ depth → result ≡ Ok (Fork (to i.argument (depth - 1)) (to (after address i) (depth - 1)))) }
 {
-    if depth < 1 {
-        return Ruling::Refused(CheckCause::ShallowDepth);
-    }
+    let depth = depth.checked_sub(1).ok_or(CheckCause::ShallowDepth)?;
     let taken = Successor {
-        address: i.argument as i64,
-        depth: depth - 1,
+        address: i64::from(i.argument),
+        depth,
     };
     let next = Successor {
-        address: (address as usize + length_of(i.op)) as i64,
-        depth: depth - 1,
+        address: address_after(address, i),
+        depth,
     };
-    Ruling::Fork(taken, next)
+    Ok(Next::Fork(taken, next))
 }
 
-// The rule of the instruction i at a place: its successors, or the cause if no rule fits.
-pub fn rule_at(code: &[i32], units: &[Unit], address: u32, at: Planned, i: Instruction) -> Ruling
-    ensures ruled { Ruled (coded code.now units.now) address at.body at.depth i result }
-    ensures low { at.depth ≤ 1000 → LowIn result }
-{
-    match row_of(i.op, 0).kind {
-        Kind::Moves => onto(address, at.depth, i),
-        Kind::Ruleless => Ruling::Refused(CheckCause::NoRule),
-        Kind::Pushes => {
-            if is_call(code, address as usize + 2) {
-                call(units, address, at.depth, i.argument)
-            } else {
-                onto(address, at.depth, i)
-            }
+impl Coded<'_> {
+    // The opcode of the whole instruction at an address of the code.
+    pub fn opcode_at(&self, address: usize) -> Option<Opcode>
+        ensures { result ≡ opcode_in self.now.code.now address }
+    {
+        instruction_at(self.code, address).map(|i| i.op)
+    }
+
+    fn is_call(&self, address: usize) -> bool
+        ensures { Decides result (opcode_in self.now.code.now address ≡ Some Call) }
+    {
+        self.opcode_at(address) == Some(Opcode::Call)
+    }
+
+    // A call of the unit whose entry is pushed.
+    fn call(&self, address: u32, depth: u16, start: i32) -> Result<Next, CheckCause>
+        ensures { Called self.now.units.now address depth start result }
+    {
+        let v = self.unit_at(start).ok_or(CheckCause::NoRule)?;
+        if u32::from(depth) < u32::from(v.arguments) + u32::from(v.results) {
+            return Err(CheckCause::ShallowDepth);
         }
-        Kind::Ends => {
-            if closes(code, units, address, at) {
-                Ruling::Last
-            } else {
-                Ruling::Refused(CheckCause::NoRule)
-            }
+        if depth >= 1000 {
+            return Err(CheckCause::TooDeep);
         }
-        Kind::Halts => Ruling::Last,
-        Kind::Jumps => Ruling::Onward(Successor {
-            address: i.argument as i64,
-            depth: at.depth,
-        }),
-        Kind::Branches => fork(address, at.depth, i),
-        Kind::Frames => {
-            if (at.depth as u32) < row_of(i.op, count_in(i.argument)).uses {
-                Ruling::Refused(CheckCause::ShallowDepth)
-            } else if in_frame(units, at, i.argument) {
-                onto(address, at.depth, i)
-            } else {
-                Ruling::Refused(CheckCause::OutsideFrame)
+        Ok(Next::Onward(Successor {
+            address: i64::from(address) + 3,
+            depth: depth - u16::from(v.arguments),
+        }))
+    }
+
+    // The rule of the instruction i at a place: what comes after it, or the cause if no rule fits.
+    pub fn rule_at(&self, address: u32, at: Planned, i: Instruction) -> Result<Next, CheckCause>
+        ensures ruled { Ruled (seen self.now) address at.body at.depth i result }
+        ensures low { at.depth ≤ 1000 → LowIn result }
+    {
+        match row_of(i.op, 0).kind {
+            Kind::Moves => onto(address, at.depth, i),
+            Kind::Pushes if self.is_call(address as usize + 2) => {
+                self.call(address, at.depth, i.argument)
             }
-        }
-        Kind::Counts => {
-            if i.argument < 0 {
-                Ruling::Refused(CheckCause::NoRule)
-            } else {
-                onto(address, at.depth, i)
+            Kind::Pushes => onto(address, at.depth, i),
+            Kind::Ends if self.closes(address, at) => Ok(Next::Last),
+            Kind::Halts => Ok(Next::Last),
+            Kind::Jumps => Ok(Next::Onward(Successor {
+                address: i64::from(i.argument),
+                depth: at.depth,
+            })),
+            Kind::Branches => fork(address, at.depth, i),
+            Kind::Frames if u32::from(at.depth) < row_of(i.op, count_in(i.argument)).uses => {
+                Err(CheckCause::ShallowDepth)
             }
+            Kind::Frames if self.in_frame(at, i.argument) => onto(address, at.depth, i),
+            Kind::Frames => Err(CheckCause::OutsideFrame),
+            Kind::Counts if 0 <= i.argument => onto(address, at.depth, i),
+            Kind::Ruleless | Kind::Ends | Kind::Counts => Err(CheckCause::NoRule),
         }
     }
 }

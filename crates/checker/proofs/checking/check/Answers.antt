@@ -26,7 +26,7 @@ explore-answer-requires c =
       few = simp length-take (omega (arith, units, c.args.program.united));
       table = simp length-take (omega (arith, c.if-plan-code.false));
       slots = simp length-take (omega (arith, c.if-visits-code.false));
-      unset = unset_none c.unset.new.plan (length c.args.plan.now) c.unset.ensures;
+      unset = unset_none c.fill.new.self (length c.args.plan.now) (c.fill.ensures.after (λ y e. search rules));
     }
 
 pub returns-in-Ok : goal.returns-in-Ok
@@ -67,7 +67,7 @@ returns-in-Err c =
         turn = subst (λ (z : Program). Turn z c.in-Err.finding.cause) h c.in-Err.ensures.1;
         due = due;
         none = λ o law. due_not P o law c.in-Err.finding.cause c.in-Err.finding.address due;
-        unset = c.unset-in-Err.ensures ∙ ap (λ (z : ℕ). replicate z None) k;
+        unset = c.fill-in-Err.ensures.after (λ y e. search rules) ∙ ap (λ (z : ℕ). replicate z None) k;
         zeros = c.zero.ensures ∙ ap (λ (z : ℕ). replicate z 0) q;
       })),
     )

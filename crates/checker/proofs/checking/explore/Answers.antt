@@ -1,19 +1,17 @@
-use Rattle.std.proofs.Common.{◌≡◌, ℕ, List, [], take, sym, ap, subst, arith}
-use Rattle.slots.specs.Items.{items, slots_of}
-use Rattle.plan.specs.Programs.{Program, coded}
-use Rattle.checker.specs.Work.{places_of, Base}
-use Rattle.checker.proofs.Works.{base_none}
+use Rattle.std.proofs.Common.{◌≡◌, ◌∙◌, subst, MatchResult, rules}
+use Rattle.isa.specs.Code.{Divided}
+use Rattle.plan.specs.Programs.{Program, Opened, seen}
+use Rattle.plan.specs.Lawful.{Least, plan_of}
+use Rattle.plan.specs.Causes.{Due}
+use Rattle.checker.specs.Progress.{judged, places}
+use Rattle.checker.proofs.Works.{explored}
 use Rattle.checker.proofs.checking.explore.Goals as goal
 
-pub begin-requires : goal.begin-requires
-begin-requires c =
-    let P : Program = coded c.args.code.now c.args.units.now in
-    let none : items c.new-list.result ≡ [] = ap (λ (n : ℕ). take n (slots_of c.new-list.result)) c.new-list.ensures.len in
-    record {
-      small = c.requires.small;
-      few = c.requires.few;
-      table = omega (arith, c.requires.table);
-      slots = omega (arith, c.requires.slots, c.new-list.ensures.room);
-      marked = c.in_default.ensures.1;
-      base = subst (λ (z : List ℕ). Base P (places_of c.mark.new.plan) z) (sym none) (base_none P (places_of c.mark.new.plan) c.in_default.ensures.2);
-    }
+pub returns : goal.returns
+returns c =
+    let P : Program = seen c.args.program.now in
+    let e : judged c.begin.new.self ≡ P = c.in_ok-begin.ensures.begun.0.is ∙ c.new-work.ensures.ready.is in
+    let d : Divided P.code = search rules in
+    let o : Opened P = search rules in
+    explored P _ c.drain.new.self.plan.now c.drain.result (search rules) (record { divided = d; opened = o })
+    (subst (λ (Q : Program). MatchResult c.drain.result (λ _. Least Q (plan_of (places c.drain.new.self))) (λ f. Due Q f.cause f.address)) e c.drain.ensures.drained)

@@ -6,11 +6,11 @@ use Rattle.checker.proofs.division.mark.Given as goal
 
 abbrev pub invariant-loop-a : goal.invariant-loop-a
 invariant-loop-a l =
-    Divides l.code l.a
-    × (l.a ≤ length l.code)
-    × MarkedTo l.code l.plan l.a
+    Divides l.program.code.now l.a
+    × (l.a ≤ length l.program.code.now)
+    × MarkedTo l.program.code.now l.plan l.a
     × ((b : ℕ) → l.a ≤ b → get_or l.plan b None ≡ None)
     × ((b : ℕ) → get_or (places_of l.plan) b None ≡ None)
 
 abbrev pub decreases-loop-a : goal.decreases-loop-a
-decreases-loop-a l = length l.code - l.a
+decreases-loop-a l = length l.program.code.now - l.a

@@ -1,14 +1,9 @@
-use Rattle.std.proofs.Common.{ℕ, ◌+◌, ◌<◌, ◌≤◌, sym, refl, arith}
-use Rattle.program.specs.declared.unit.Unit.{Unit as UnitRecord}
-use Rattle.plan.proofs.Listing.{units_each}
+use Rattle.std.proofs.Common.{rules, tests}
+use Rattle.std.proofs.lemmas.Iterator.{cases_from_any, YieldsList-from_slice}
+use Rattle.checker.proofs.Within.{Lies, opening_decided}
 use Rattle.checker.proofs.openings.in_opening.Goals as goal
-use Rattle.checker.proofs.openings.in_opening.Goals.{else-e-a-via-then-e-a+else-a-e, else-e-a-via-else-e-a}
 
-pub loop-v-preserved : goal.loop-v-preserved
-loop-v-preserved c =
-    units_each c.args.units.now (λ (k : ℕ) (v : UnitRecord). v.entry ≤ c.args.a → c.args.a < v.entry + 3 → ⊥) c.loop-v.v-index c.v-item.result c.loop-v.invariant
-    (c.loop-v-test.true, sym c.v-item.is)
-    (λ p q. elim c.else-e-a.branch [ else-e-a-via-then-e-a+else-a-e w ↦ omega (arith, w.if-a-e.false) | else-e-a-via-else-e-a w ↦ omega (arith, w.if-e-a.false) ])
-
-pub returns-then-a-e : goal.returns-then-a-e
-returns-then-a-e c = (λ q. (c.loop-v.v-index, c.v-item.result, (c.loop-v-test.true, sym c.v-item.is), c.if-e-a.true, c.if-a-e.true), λ q. refl)
+pub returns : goal.returns
+returns c =
+    opening_decided c.args.units.now c.args.a c.any.result
+    (cases_from_any _ _ _ (Lies c.args.a) (λ v. Lies c.args.a v → ⊥) c.any.ensures.ran (YieldsList-from_slice c.args.units.now cc) (λ x q k. search (rules, tests)) (λ x q k. search (rules, tests)))
