@@ -1,6 +1,5 @@
 // The rules, as docs/CHECK.md lists them.
-ghost use Rattle.std.specs.Prelude.{◌≡◌, ℕ, ◌+◌, ◌-◌, ◌<◌, ◌≤◌, ℤ, pos, Some, None, Ok, Err, Decides};
-ghost use Rattle.isa.specs.Table.{size};
+ghost use Rattle.std.specs.Prelude.{◌≡◌, ◌-◌, ◌<◌, ◌≤◌, Some, Ok, Err, Decides};
 ghost use Rattle.isa.specs.declared.opcode.Opcode.TheVariants.{Call};
 ghost use Rattle.plan.specs.Kinds.{table, count};
 ghost use Rattle.plan.specs.Programs.{seen, opcode_in};

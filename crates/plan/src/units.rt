@@ -1,5 +1,5 @@
 // The units of a program, by their entries and by their bodies.
-ghost use Rattle.std.specs.Prelude.{◌≡◌, ℕ, suc, ◌+◌, ℤ, pos, Some, None, Decides, MatchOption, ◌≢◌};
+ghost use Rattle.std.specs.Prelude.{◌≡◌, ℕ, suc, ℤ, pos, Some, Decides, MatchOption, ◌≢◌};
 ghost use Rattle.isa.specs.Code.{instruction};
 ghost use Rattle.isa.specs.declared.opcode.Opcode.TheVariants.{Ret};
 ghost use Rattle.plan.specs.Programs.{seen, Listed};
