@@ -61,8 +61,7 @@ fn finished(counts: Counts) -> Result<Assembled, Fault>
 }
 
 // Surveyed lines become a program, if it fits its memory and every name has a label.
-// Stays: the three lists are three parameters. With a struct that owned them, `assemble_fit` did not prove: nothing was
-// known there of what a list within a struct leaves in its lent slots.
+// Stays: with a struct that owned labels and units `assemble_fit` did not prove; what their lent slots end as stayed open.
 fn link(
     cells: usize,
     tally: Tally,

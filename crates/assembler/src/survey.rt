@@ -76,8 +76,7 @@ fn octet_of(number: &[u8]) -> u8
 }
 
 // A label at the end of the section at hand.
-// Stays: `add_unit` below is no twin to make generic, for what the two share stands in `add`, and the rest is the
-// record that each makes of the name.
+// Stays: what this and `add_unit` share is in `add`, and the rest is the record that each makes of the name.
 fn add_label(tally: Tally, labels: &mut SlotList<Label>, word: &[u8]) -> Result<(), AssemblyCause>
     requires small { Small tally 1000000000 }
     requires short { length word.now ≤ 31 }

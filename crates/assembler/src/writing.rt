@@ -1,6 +1,5 @@
 // The cells of a program, written one after another.
-// Stays: `written` and `labels` go together as two parameters. A struct of both would hold a `&mut`, and each of its
-// methods would have to promise besides that it is the same one.
+// Stays: a struct of `written` and `labels` holds a `&mut`, of which each method would promise that it is the same.
 ghost use Rattle.assembler.specs.Assembly.{forms};
 ghost use Rattle.assembler.specs.Cells.{all, both, cell, in_cell, items_in, same_section, following_section};
 ghost use Rattle.assembler.specs.Marks.{find as find_mark, mark_of};

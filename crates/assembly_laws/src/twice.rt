@@ -5,8 +5,7 @@ use assembler::assemble;
 use program::{Assembled, Fault, Label, Unit};
 
 // The same texts, assembled into one memory and then into the other.
-// Stays: a memory and its slots are three parameters. A struct of them would hold three `&mut`, and the promise would
-// speak of what it left at the exit by position.
+// Stays: a struct of memory and slots holds three `&mut`, and the promise would speak of its exit by position.
 fn assemble_both(
     site: &[u8],
     library: &[u8],
