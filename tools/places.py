@@ -52,7 +52,7 @@ def functions(lines):
         if not m:
             continue
         end = i
-        while end + 1 < len(lines) and not re.match(r"^" + m.group(1) + r"(\}|.*;$)", lines[end]):
+        while end + 1 < len(lines) and lines[end] != m.group(1) + "}" and not lines[end].endswith("};"):
             end += 1
         found.append((m.group(4), i, end))
     return found
