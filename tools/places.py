@@ -97,10 +97,13 @@ def main():
             for point, pattern in LINES.items():
                 if re.search(pattern, line):
                     places[point].append((path, at, *around(lines, funcs, at), line.strip()))
+            after = lines[at + 1].strip() if at + 1 < len(lines) else ""
+            if re.search(r"\} else \{$|^\s*let .* else \{$", line) and re.match(r"return (false|true|None);$", after):
+                places["1f let .. else that answers false, true or None"].append((path, at, *around(lines, funcs, at), line.strip()))
         for name, first, last in funcs:
             text = shape(lines, first, last)
             if len(text.split()) >= 30:
-                shapes[text].append((path, first, name))
+                shapes[text].append((path, first, name, around(lines, funcs, first)[1]))
             head = " ".join(lines[first:last + 1]).split("{")[0]
             params = re.findall(r"(\w+): ([^,()]+(?:<[^>]*>)?)", head.split(") ->")[0])
             names = [p[0] for p in params]
@@ -108,19 +111,20 @@ def main():
                 for j in range(i + 1, len(names)):
                     together[(crate, names[i], names[j])].append((path, first, name))
             for k in range(first, last + 1):
-                m = re.match(r"^\s*requires (?:\w+ )?\{ (.*) \}$", lines[k])
+                m = re.match(r"^\s*(requires|ensures) (?:\w+ )?\{ (.*) \}$", lines[k])
                 if m:
-                    clauses[(crate, m.group(1))].append((path, first, name))
+                    clauses[(crate, m.group(1), m.group(2))].append((path, first, name))
     for text, found in shapes.items():
         if len(found) > 1:
-            for path, at, name in found:
-                places["2 functions of one shape"].append((path, at, name, False, f"{len(found)} of one shape"))
+            for path, at, name, stays in found:
+                places["2 functions of one shape"].append((path, at, name, stays, f"{len(found)} of one shape"))
     for (crate, a, b), found in together.items():
         if len(found) >= 3:
             places["5a pairs of parameters in three functions"].append((f"crates/{crate}", 0, "-", False, f"{a}, {b}: {len(found)}"))
-    for (crate, clause), found in clauses.items():
+    for (crate, kind, clause), found in clauses.items():
         if len(found) >= 3:
-            places["5b requires in three functions"].append((f"crates/{crate}", 0, "-", False, f"{clause}: {len(found)}"))
+            point = "5b requires in three functions" if kind == "requires" else "5c ensures in three functions"
+            places[point].append((f"crates/{crate}", 0, "-", False, f"{clause}: {len(found)}"))
     for point in sorted(places):
         found = places[point]
         print(f"{point}: {len(found)}, with a line {sum(1 for p in found if p[3])}")
