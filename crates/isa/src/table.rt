@@ -83,11 +83,13 @@ impl TryFrom<i32> for Opcode {
         if cell < 1 {
             return Err(NoOpcode);
         }
+        // Stays: a cast, as each step of a machine decodes so, and `try_from` would test the sign again.
         opcode_at(&TABLE, cell as usize - 1).ok_or(NoOpcode)
     }
 }
 
 // The opcode that a cell holds.
+// Stays: `decode` and `code_of` are public and promise their results in `ensures`, on which all proofs above stand.
 pub fn decode(cell: i32) -> Option<Opcode>
     ensures { result ≡ decoded cell }
 {

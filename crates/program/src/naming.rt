@@ -28,6 +28,7 @@ pub fn is_word(word: &[u8], name: &[u8]) -> bool
 
 impl Name {
     // No name: 31 bytes of zero.
+    // Stays: no `Default`, which is not derived for a struct with a ghost field, as a name is, nor for what holds one.
     pub fn empty() -> Name
         ensures { (result.bytes ≡ replicate 31 0) × (result.len ≡ 0) }
     {
