@@ -25,11 +25,11 @@ fn spell_size(n: u32) -> Numeral
     let mut rest = n;
     while rest >= 10 {
         start -= 1;
-        bytes[start] = b'0' + (rest % 10) as u8;
+        bytes[start] = b'0' + u8::try_from(rest % 10).unwrap();
         rest /= 10;
     }
     start -= 1;
-    bytes[start] = b'0' + rest as u8;
+    bytes[start] = b'0' + u8::try_from(rest).unwrap();
     Numeral { bytes, start }
 }
 
