@@ -3,34 +3,39 @@
 // What the arithmetic, logic and comparison instructions make of cells, which are signed 32-bit numbers.
 mod operation;
 
-ghost use Rattle.std.specs.Prelude.{◌≡◌};
-ghost use Rattle.arithmetic.specs.Cells.{divided, remained, binary, unary};
+ghost use Rattle.std.specs.Prelude.{◌≡◌, cond, Ok, Err};
+ghost use Rattle.arithmetic.specs.Cells.{is_zero, divided, remained, binary, unary};
+ghost use Rattle.program.specs.declared.fault.MachineCause.TheVariants.{DivisorZero};
 
 pub use operation::{Binary, Unary};
 use program::MachineCause;
+
+// A divisor that is not 0.
+fn nonzero(b: i32) -> Result<i32, MachineCause>
+    ensures { result ≡ cond (is_zero b) (Err DivisorZero) (Ok b) }
+{
+    if b == 0 {
+        return Err(MachineCause::DivisorZero);
+    }
+    Ok(b)
+}
 
 // The quotient, truncated toward zero.
 fn divide(a: i32, b: i32) -> Result<i32, MachineCause>
     ensures { result ≡ divided a b }
 {
-    if b == 0 {
-        return Err(MachineCause::DivisorZero);
-    }
-    a.checked_div(b).ok_or(MachineCause::Overflow)
+    a.checked_div(nonzero(b)?).ok_or(MachineCause::Overflow)
 }
 
 // The remainder, with the dividend's sign. That of the lowest number by -1 is 0.
 fn remainder(a: i32, b: i32) -> Result<i32, MachineCause>
     ensures { result ≡ remained a b }
 {
-    if b == 0 {
-        return Err(MachineCause::DivisorZero);
-    }
-    Ok(a.wrapping_rem(b))
+    Ok(a.wrapping_rem(nonzero(b)?))
 }
 
 // What an operation makes of two cells: `a` was pushed before `b`.
-// Stays: one match over the operations, since a closure for each would name an enum of them all the same.
+// Stays: one match over the operations here and in `turn`, since a closure for each would name an enum all the same.
 pub fn compute(op: Binary, a: i32, b: i32) -> Result<i32, MachineCause>
     ensures { result ≡ binary op a b }
 {

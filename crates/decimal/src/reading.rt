@@ -1,5 +1,5 @@
 ghost use Rattle.std.specs.Prelude.{◌≡◌, ◌<◌, ◌≤◌, true, false, pos, neg_ℤ, Ok, MatchOption};
-ghost use Rattle.decimal.specs.Numbers.{digit, are_all_digits, is_numeral_text, natural, numeral, capped, cell_range};
+ghost use Rattle.decimal.specs.Numbers.{are_all_digits, is_numeral_text, natural, numeral, capped, cell_range};
 ghost use Rattle.decimal.specs.Numerals.{text_of};
 ghost use Rattle.decimal.specs.Reading.{read_as};
 
@@ -16,17 +16,11 @@ pub enum NumberError {
 // One past the largest magnitude of a number of 32 signed bits.
 const LARGEST: u64 = 2147483649;
 
-fn is_digit(byte: u8) -> bool
-    ensures { result ≡ digit byte }
-{
-    byte.is_ascii_digit()
-}
-
 // At least one digit, and nothing else?
 fn are_digits(text: &[u8]) -> bool
     ensures { result ≡ are_all_digits text.now }
 {
-    !text.is_empty() && text.iter().all(|byte| is_digit(*byte))
+    !text.is_empty() && text.iter().all(|byte| byte.is_ascii_digit())
 }
 
 // Digits, after a minus or after nothing?

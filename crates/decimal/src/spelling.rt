@@ -14,7 +14,7 @@ impl Numeral {
 }
 
 // The digits of a magnitude, with room for a sign before them.
-// Stays: the digits come last first into fixed bytes, and their number, which an iterator needs, is known only then.
+// Stays: a `for` over the bytes from the last would break where no digit is left, and count that place all the same.
 fn spell_size(n: u32) -> Numeral
     requires { n ≤ 2 ^ 31 }
     ensures text { text_of result ≡ decimal n }
@@ -25,11 +25,11 @@ fn spell_size(n: u32) -> Numeral
     let mut rest = n;
     while rest >= 10 {
         start -= 1;
-        bytes[start] = b'0' + (rest % 10) as u8;
+        bytes[start] = b'0' + u8::try_from(rest % 10).unwrap();
         rest /= 10;
     }
     start -= 1;
-    bytes[start] = b'0' + rest as u8;
+    bytes[start] = b'0' + u8::try_from(rest).unwrap();
     Numeral { bytes, start }
 }
 

@@ -58,7 +58,7 @@ pub struct NoOpcode;
 
 // What an instruction takes after its mnemonic: nothing, a number or a label, a label, a count from 0 to 1,000,
 // or a number. All but the first stand in one argument cell.
-// Stays: each reader of a mnemonic takes one of five forms, and an Option of four would only nest the first.
+// Stays: the table of instructions in specs/ names these five, of which nothing is one, for each opcode.
 #[derive(Clone, Copy, PartialEq, Eq)]
 pub enum Operand {
     Absent,

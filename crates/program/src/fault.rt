@@ -7,6 +7,7 @@ pub enum Text {
 
 // Where a fault stands: nowhere, at a line of a text (line 0 is the text as a whole), at an address of the
 // code, or at the instruction that pc points to.
+// Stays: `Nowhere` and line 0, since a place's number, which the programs show, is promised to be 0 for both.
 #[derive(Clone, Copy, PartialEq, Eq)]
 pub enum Place {
     Nowhere,

@@ -15,6 +15,7 @@ pub fn small_letter(byte: u8) -> u8
 }
 
 // Is the word, in small letters, this name?
+// Stays: with `map` and `eq` it did not prove; open was that `eq` of two iterators answers whether their lists agree.
 pub fn is_word(word: &[u8], name: &[u8]) -> bool
     ensures { result ≡ same (smalls word.now) name.now }
 {
@@ -28,6 +29,7 @@ pub fn is_word(word: &[u8], name: &[u8]) -> bool
 
 impl Name {
     // No name: 31 bytes of zero.
+    // Stays: no `Default`, which is not derived for a struct with a ghost field, as a name is, nor for what holds one.
     pub fn empty() -> Name
         ensures { (result.bytes ≡ replicate 31 0) × (result.len ≡ 0) }
     {

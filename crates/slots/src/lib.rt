@@ -10,6 +10,7 @@ ghost use Rattle.slots.specs.Items.{items, room, slots_of};
 
 pub use list::SlotList;
 
+// Stays: `lender` and `room` are a clause of each method, since callers' proofs cite each of them by its name.
 impl<'a, T: Copy> SlotList<'a, T> {
     // An empty list, of at most `most` elements; no slot changes.
     pub fn new(slots: &'a mut [T], most: usize) -> SlotList<'a, T>

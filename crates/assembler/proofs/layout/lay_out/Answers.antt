@@ -1,5 +1,5 @@
 use Rattle.std.proofs.Common.{rules}
-use Rattle.slots.specs.Changes.{map_changed}
+use Rattle.slots.proofs.Changes.{map_changed}
 use Rattle.assembler.specs.Cells.{laid}
 use Rattle.assembler.specs.Marks.{mark_of}
 use Rattle.assembler.proofs.layout.lay_out.Goals as goal

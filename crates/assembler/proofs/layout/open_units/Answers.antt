@@ -1,5 +1,5 @@
 use Rattle.std.proofs.Common.{map, rules}
-use Rattle.slots.specs.Changes.{map_changed}
+use Rattle.slots.proofs.Changes.{map_changed}
 use Rattle.assembler.specs.Cells.{opening}
 use Rattle.assembler.specs.Marks.{entry_of, mark_of}
 use Rattle.assembler.proofs.layout.open_units.Goals as goal

@@ -1,7 +1,6 @@
 -- What a list's elements show after `change_each`.
-use Rattle.std.specs.Prelude.{◌≡◌, List, [], ◌∷◌, map, refl}
+use Rattle.std.proofs.Common.{◌≡◌, List, [], ◌∷◌, map, refl, ap, ◌∙◌}
 use Rattle.std.specs.List.{AllZip}
-use Rattle.std.proofs.Common.{ap, ◌∙◌}
 
 -- Where each new element shows to g what h makes of what the old one shows, so do the lists.
 pub map_changed : {X M : Type 0} (R : X → X → Type 0) (g : X → M) (h : M → M) → ((x y : X) → R x y → g y ≡ h (g x)) → (xs ys : List X) → AllZip R xs ys → map g ys ≡ map h (map g xs)
