@@ -49,18 +49,18 @@ leads_test x y z true f w l = (refl, l)
 leads_test x y z false f w l = absurd l
 
 -- the step of a known instruction
-did : (lay : Layout) (i : Fetched) (op : Opcode) (x y : Core) → doing lay x ≡ Some i → i.op ≡ op → Leads (performed lay x) x y → Leads (exec lay x.reg.pc op i.argument (at_pc i.next x)) x y
+did : (lay : Layout) (i : Fetched) (op : Opcode) (x y : Core) → doing lay x ≡ Some i → i.instruction.op ≡ op → Leads (performed lay x) x y → Leads (exec lay x.reg.pc op i.instruction.argument (at_pc i.next x)) x y
 unfolding performed
-did lay i op x y e o l = subst (λ (q : Opcode). Leads (exec lay x.reg.pc q i.argument (at_pc i.next x)) x y) o (subst (λ (q : Option Fetched). Leads (does lay q x) x y) e l)
+did lay i op x y e o l = subst (λ (q : Opcode). Leads (exec lay x.reg.pc q i.instruction.argument (at_pc i.next x)) x y) o (subst (λ (q : Option Fetched). Leads (does lay q x) x y) e l)
 
-followed_next : (a : ℕ) (o : Option Instruction) (i : Fetched) → followed a o ≡ Some i → i.next ≡ pos a +ℤ pos (size i.op)
+followed_next : (a : ℕ) (o : Option Instruction) (i : Fetched) → followed a o ≡ Some i → i.next ≡ pos a +ℤ pos (size i.instruction.op)
 followed_next a None i e = let z : ◌≡◌ {A = ℕ} 0 1 = cc in absurd (omega arith)
 followed_next a (Some j) i e =
-    let q : record { op = j.op; argument = j.argument; next = pos (a + size j.op) } ≡ i = cc in
-    subst (λ (f : Fetched). f.next ≡ pos a +ℤ pos (size f.op)) q refl
+    let q : record { instruction = j; next = pos (a + size j.op) } ≡ i = cc in
+    subst (λ (f : Fetched). f.next ≡ pos a +ℤ pos (size f.instruction.op)) q refl
 
 -- the address after an instruction
-next_is : (code : List ℤ) (z : ℤ) (i : Fetched) → fetched code z ≡ Some i → i.next ≡ z +ℤ pos (size i.op)
+next_is : (code : List ℤ) (z : ℤ) (i : Fetched) → fetched code z ≡ Some i → i.next ≡ z +ℤ pos (size i.instruction.op)
 next_is code (pos a) i e = followed_next a (instruction code a) i e
 next_is code (negsuc a) i e = let z : ◌≡◌ {A = ℕ} 0 1 = cc in absurd (omega arith)
 
@@ -178,17 +178,17 @@ module _ (B : Box) (p : Plan) (law : Lawful B.program p) (xs : List Core) (n i :
     (lead : (j : ℕ) → j < n → Leads (performed B.layout (get_or xs j x)) (get_or xs j x) (get_or xs (suc j) x))
     (f h : Fetched) (fits : x.reg.sp ≤ B.size) (len : length x.mem ≡ B.size) (room-x : x.reg.limit + 1 ≤ x.reg.sp)
     (next-x : f.next ≡ x.reg.pc +ℤ pos 2)
-    (y-is : get_or xs (suc i) x ≡ pushed f.argument (at_pc f.next x))
+    (y-is : get_or xs (suc i) x ≡ pushed f.instruction.argument (at_pc f.next x))
     (z-is : get_or xs (suc (suc i)) x ≡ at_pc (top (get_or xs (suc i) x)) (put (get_or xs (suc i) x).reg.sp h.next (at_pc h.next (get_or xs (suc i) x))))
     (F : List Frame) where
   abbrev Law : Type 0
-  Law = (k : ℕ) × (v : UnitRecord) × Listed B.program.units k v × (f.argument ≡ pos v.entry) × Kept B.layout xs n i x v
+  Law = (k : ℕ) × (v : UnitRecord) × Listed B.program.units k v × (f.instruction.argument ≡ pos v.entry) × Kept B.layout xs n i x v
 
   entered : (g : Frame) → Ground B (get_or xs (suc (suc i)) x) → Inv B p (g ∷ F) (get_or xs (suc (suc i)) x) →
       top (get_or xs (suc i) x) ≡ pos g.unit.entry → g.cell ≡ (get_or xs (suc i) x).reg.sp → (get_or xs (suc i) x).reg.fp ≡ pos g.link → (get_or xs (suc i) x).reg.pc +ℤ pos 1 ≡ pos g.back → Law
   unfolding times
   entered g gr inv t c u b =
-      let e : ℤ = f.argument in
+      let e : ℤ = f.instruction.argument in
       let sp_y : (get_or xs (suc i) x).reg.sp ≡ x.reg.sp - 1 = ap (λ (q : Core). q.reg.sp) y-is in
       let fp_y : (get_or xs (suc i) x).reg.fp ≡ x.reg.fp = ap (λ (q : Core). q.reg.fp) y-is in
       let pc_y : (get_or xs (suc i) x).reg.pc ≡ x.reg.pc +ℤ pos 2 = ap (λ (q : Core). q.reg.pc) y-is ∙ next-x in
@@ -232,8 +232,8 @@ module _ (B : Box) (p : Plan) (law : Lawful B.program p) (xs : List Core) (n i :
   moving H gr inv m is (less c r g q t u v) = absurd (omega arith)
 
 -- a step that does a CALL counts as one
-call_counts : (m : Option Fetched) (i : Fetched) → m ≡ Some i → i.op ≡ O.Call → is_op O.Call m ≡ 1
-call_counts m i e o = ap (is_op O.Call) e ∙ ap (λ (q : Opcode). is_op O.Call (Some (record { op = q; argument = i.argument; next = i.next }))) o
+call_counts : (m : Option Fetched) (i : Fetched) → m ≡ Some i → i.instruction.op ≡ O.Call → is_op O.Call m ≡ 1
+call_counts m i e o = ap (is_op O.Call) e ∙ ap (λ (q : Opcode). is_op O.Call (Some (record { instruction = record { op = q; argument = i.instruction.argument }; next = i.next }))) o
 
 pub calling_law : (P : Handed) (p : Plan) (law : Lawful (program_in P) p) (k : Controller) → New P k → (l : Life) → Fine P p l → Calling P l
 calling_law P p law k new l fine i f h d b c1 o1 c2 o2 =
@@ -253,7 +253,7 @@ calling_law P p law k new l fine i f h d b c1 o1 c2 o2 =
     let a1 = after_at B p law xs x n lead (suc i) b s1.frames s1.ground s1.inv in
     let l0 : Leads (performed lay x) x (get_or xs (suc i) x) = rw e0 at (lead i (omega arith)) in
     let d0 = did lay f O.Push x (get_or xs (suc i) x) c1 o1 l0 in
-    let t0 = leads_test x (get_or xs (suc i) x) (pushed f.argument (at_pc f.next x)) (leb (x.reg.limit + 1) x.reg.sp) _ _ d0 in
+    let t0 = leads_test x (get_or xs (suc i) x) (pushed f.instruction.argument (at_pc f.next x)) (leb (x.reg.limit + 1) x.reg.sp) _ _ d0 in
     let c3 : doing lay (get_or xs (suc i) x) ≡ Some h = rw e1 c2 in
     let y : Core = get_or xs (suc i) x in
     let d1 = did lay h O.Call y (get_or xs (suc (suc i)) x) c3 o2 (lead (suc i) b) in

@@ -137,7 +137,7 @@ module _ (B : Box) (p : Plan) (F : List Frame) (x : Core) where
   either false m n g h = h
 
 -- the instruction at pc, by the program's code
-pub at_place : (B : Box) (x : Core) (a : ℕ) (op : Opcode) (k : ℤ) → Ground B x → x.reg.pc ≡ pos a → instruction B.program.code a ≡ Some (record { op = op; argument = k }) → doing B.layout x ≡ Some (record { op = op; argument = k; next = pos (a + size op) })
+pub at_place : (B : Box) (x : Core) (a : ℕ) (op : Opcode) (k : ℤ) → Ground B x → x.reg.pc ≡ pos a → instruction B.program.code a ≡ Some (record { op = op; argument = k }) → doing B.layout x ≡ Some (record { instruction = record { op = op; argument = k }; next = pos (a + size op) })
 at_place B x a op k g e d = ap (fetched (take B.layout.code x.mem)) e ∙ ap (λ m. followed a (instruction m a)) g.code ∙ ap (followed a) d
 
 opcode_some : (o : Option Instruction) (op : Opcode) → opcode_of o ≡ Some op → (k : ℤ) × (o ≡ Some (record { op = op; argument = k }))
@@ -147,6 +147,6 @@ opcode_some (Some i) op e = let q : i.op ≡ op = cc in (i.argument, ap (λ y. S
 pub opcode_is : (code : List ℤ) (a : ℕ) (op : Opcode) → opcode_in code a ≡ Some op → (k : ℤ) × (instruction code a ≡ Some (record { op = op; argument = k }))
 opcode_is code a op e = opcode_some (instruction code a) op e
 
-pub act_good : (B : Box) (p : Plan) (F : List Frame) (x : Core) (op : Opcode) (k n : ℤ) → doing B.layout x ≡ Some (record { op = op; argument = k; next = n }) → Good B p F x (exec B.layout x.reg.pc op k (at_pc n x)) → Good B p F x (performed B.layout x)
+pub act_good : (B : Box) (p : Plan) (F : List Frame) (x : Core) (op : Opcode) (k n : ℤ) → doing B.layout x ≡ Some (record { instruction = record { op = op; argument = k }; next = n }) → Good B p F x (exec B.layout x.reg.pc op k (at_pc n x)) → Good B p F x (performed B.layout x)
 unfolding performed
 act_good B p F x op k n e g = subst (λ o. Good B p F x (does B.layout o x)) (sym e) g

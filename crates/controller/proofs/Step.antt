@@ -50,7 +50,7 @@ module _ (B : Box) (p : Plan) (law : Lawful B.program p) (F : List Frame) (x : C
   deep : (u : ℕ) → u ≤ s.h → x.reg.sp + u ≤ length x.mem
   deep u l = let t : s.f + 1 ≤ B.size = chain_top B p x.mem F s.f s.b s.chain in omega arith
 
-  module _ (op : Opcode) (k : ℤ) (at-pc : doing B.layout x ≡ Some (record { op = op; argument = k; next = pos (s.a + size op) })) (quiet : Quiet op) where
+  module _ (op : Opcode) (k : ℤ) (at-pc : doing B.layout x ≡ Some (record { instruction = record { op = op; argument = k }; next = pos (s.a + size op) })) (quiet : Quiet op) where
     -- on in the same frames
     stays : (y : Core) → Inv B p F y → y.reg.limit ≤ y.reg.sp → B.layout.floor ≤ y.reg.limit → Calm B F s.f x.mem y.mem → After B p F x y
     stays y v l w c = record {
@@ -184,7 +184,7 @@ module _ (B : Box) (p : Plan) (law : Lawful B.program p) (F : List Frame) (x : C
         uses_good B p F x 1 (λ c. character (top c) act c) past (deep 1 l) (fine_good B p F x (lettered (top x)) act past (lettered_late (top x)) (λ b _. drops l r))
 
   -- the PUSH of a call
-  entering : (k : ℤ) (u : ℕ) (v : UnitRecord) → doing B.layout x ≡ Some (record { op = O.Push; argument = k; next = pos (s.a + 2) }) → Enters B p s.a s.b s.h k u v → x.reg.limit + 1 ≤ x.reg.sp → After B p F x (pushed k (at_pc (pos (s.a + 2)) x))
+  entering : (k : ℤ) (u : ℕ) (v : UnitRecord) → doing B.layout x ≡ Some (record { instruction = record { op = O.Push; argument = k }; next = pos (s.a + 2) }) → Enters B p s.a s.b s.h k u v → x.reg.limit + 1 ≤ x.reg.sp → After B p F x (pushed k (at_pc (pos (s.a + 2)) x))
   entering k u v at-pc c t =
       let l : s.f + 1 ≤ B.size = chain_top B p x.mem F s.f s.b s.chain in
       let calm : Calm B F s.f x.mem (set x.mem (x.reg.sp - 1) k) = calm_set B F s.f x.mem (x.reg.sp - 1) k (omega arith) (inl (omega arith)) in
@@ -193,7 +193,7 @@ module _ (B : Box) (p : Plan) (law : Lawful B.program p) (F : List Frame) (x : C
       (omega arith) gr.above calm
 
 -- the STOREFP of an end
-ending : (B : Box) (p : Plan) (law : Lawful B.program p) (F : List Frame) (x : Core) (gr : Ground B x) (s : Placed B p F x) (j : ℕ) (v : UnitRecord) (k : ℤ) → doing B.layout x ≡ Some (record { op = O.Storefp; argument = k; next = pos (s.a + 1) }) → R.Closes B.program s.a s.b s.h j v → Good B p F x (pops at_fp (at_pc (pos (s.a + 1)) x))
+ending : (B : Box) (p : Plan) (law : Lawful B.program p) (F : List Frame) (x : Core) (gr : Ground B x) (s : Placed B p F x) (j : ℕ) (v : UnitRecord) (k : ℤ) → doing B.layout x ≡ Some (record { instruction = record { op = O.Storefp; argument = k }; next = pos (s.a + 1) }) → R.Closes B.program s.a s.b s.h j v → Good B p F x (pops at_fp (at_pc (pos (s.a + 1)) x))
 ending B p law [] x gr s j v k at-pc e = absurd (omega arith)
 ending B p law (g ∷ F) x gr s j v k at-pc e =
     let c = s.chain in
@@ -209,7 +209,7 @@ ending B p law (g ∷ F) x gr s j v k at-pc e =
 
 module _ (B : Box) (p : Plan) (law : Lawful B.program p) (F : List Frame) (x : Core) (gr : Ground B x) (s : Placed B p F x) where
   abbrev At : Opcode → ℤ → Type 0
-  At op k = doing B.layout x ≡ Some (record { op = op; argument = k; next = pos (s.a + size op) })
+  At op k = doing B.layout x ≡ Some (record { instruction = record { op = op; argument = k }; next = pos (s.a + size op) })
 
   abbrev then : Opcode → Core
   then op = at_pc (pos (s.a + size op)) x

@@ -44,7 +44,7 @@ doing lay c = fetched (take lay.code c.mem) c.reg.pc
 -- 1 if it has the opcode op, else 0
 abbrev pub is_op : Opcode → Option Fetched → ℕ
 is_op op None = 0
-is_op op (Some i) = cond (number i.op == number op) 1 0
+is_op op (Some f) = cond (number f.instruction.op == number op) 1 0
 
 -- how many of the k steps from the i-th on have the opcode op; xs are registers and memory before each step
 unfoldable pub times : Opcode → Layout → List Core → Core → ℕ → ℕ → ℕ
@@ -80,9 +80,9 @@ pub record Kept (lay : Layout) (xs : List Core) (n i : ℕ) (x : Core) (v : Unit
 abbrev pub Calling : Handed → Life → Type 0
 Calling P l =
     (i : ℕ) (f g : Fetched) (d : Core) → suc i < steps l →
-    doing (layout_of P.counts) (slice_index_or (states l) i d) ≡ Some f → f.op ≡ Push →
-    doing (layout_of P.counts) (slice_index_or (states l) (suc i) d) ≡ Some g → g.op ≡ Call →
-    (k : ℕ) × (v : UnitRecord) × Listed (program_in P).units k v × (f.argument ≡ pos v.entry) × Kept (layout_of P.counts) (states l) (steps l) i (slice_index_or (states l) i d) v
+    doing (layout_of P.counts) (slice_index_or (states l) i d) ≡ Some f → f.instruction.op ≡ Push →
+    doing (layout_of P.counts) (slice_index_or (states l) (suc i) d) ≡ Some g → g.instruction.op ≡ Call →
+    (k : ℕ) × (v : UnitRecord) × Listed (program_in P).units k v × (f.instruction.argument ≡ pos v.entry) × Kept (layout_of P.counts) (states l) (steps l) i (slice_index_or (states l) i d) v
 
 -- any other life of a controller with the same program that accepted the same readings and did as many steps: equal
 -- registers and memory, and equal bytes given out

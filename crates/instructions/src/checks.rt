@@ -7,6 +7,7 @@ use crate::place::place;
 use crate::processor::Processor;
 use program::MachineCause;
 
+// Stays: `holds` and `room` share one test, but one function of both would take its two ends and its cause each time.
 impl<'a> Processor<'a> {
     // Does the stack have so many cells?
     pub(crate) fn holds(&self, count: usize) -> Result<(), MachineCause>

@@ -14,7 +14,7 @@ use isa::Opcode;
 use program::MachineCause;
 
 impl<'a> Processor<'a> {
-    // Stays: one match over a closed enum; no table of functions or closures may be made and handed out.
+    // Stays: one match over a closed enum, a line an opcode; no table of functions or closures may be handed out.
     fn execute(
         &mut self,
         layout: Layout,
@@ -61,8 +61,7 @@ impl<'a> Processor<'a> {
             Opcode::Deref => self.load_reference(layout, 0),
             Opcode::Call => self.call(),
             Opcode::Loadfp => self.push(self.registers.fp),
-            // Stays: `as`, since no i32 is From a usize, and TryFrom would answer an error that cannot come.
-            Opcode::Loadsp => self.push(self.registers.sp as i32 - 1),
+            Opcode::Loadsp => self.push(i32::try_from(self.registers.sp).unwrap() - 1),
             Opcode::Storefp => self.store_fp(),
             Opcode::Rmem => self.reserve(argument),
             Opcode::Fmem => self.release(argument),
@@ -73,7 +72,7 @@ impl<'a> Processor<'a> {
             Opcode::Storesp => self.store_sp(),
             Opcode::Loadhp => self.push(self.registers.hp),
             Opcode::Storehp => self.store_hp(),
-            Opcode::Loadhl => self.push(self.registers.limit as i32 - 1),
+            Opcode::Loadhl => self.push(i32::try_from(self.registers.limit).unwrap() - 1),
             Opcode::Storehl => self.store_hl(layout),
         }
     }

@@ -21,6 +21,7 @@ pub(crate) fn place(
 }
 
 // The byte that a cell holds.
+// Stays: one of any T and cause would promise by TryFrom's clause, and each caller would say again what it reads.
 pub(crate) fn letter(cell: i32) -> Result<u8, MachineCause>
     ensures { result ≡ lettered cell }
 {

@@ -121,7 +121,7 @@ module _ (lay : Layout) (start : Core) where
 
   does_safe : (i : Option Fetched) (c : Core) → Safe lay start c → Safely (does lay i c)
   does_safe None c s = s
-  does_safe (Some i) c s = exec_safe c.reg.pc i.op i.argument (at_pc i.next c) (search rules)
+  does_safe (Some f) c s = exec_safe c.reg.pc f.instruction.op f.instruction.argument (at_pc f.next c) (search rules)
 
   performed_safe : (c : Core) → Safe lay start c → Safely (performed lay c)
   unfolding performed

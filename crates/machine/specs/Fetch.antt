@@ -8,7 +8,7 @@ use Rattle.machine.specs.declared.fetch.Fetched.{Fetched}
 -- with the address after it
 abbrev pub followed : ℕ → Option Instruction → Option Fetched
 followed a None = None
-followed a (Some i) = Some (record { op = i.op; argument = i.argument; next = pos (a + size i.op) })
+followed a (Some i) = Some (record { instruction = i; next = pos (a + size i.op) })
 
 -- an address below 0 is not code
 abbrev pub fetched : List ℤ → ℤ → Option Fetched

@@ -37,7 +37,7 @@ answered (faults f to) c w = stopped (Fault (F.Machine f (Counter c.reg.pc))) c 
 -- the instruction at pc, from past it
 abbrev pub does : Layout → Option Fetched → Act
 does lay None c = faults NoInstruction c
-does lay (Some i) c = exec lay c.reg.pc i.op i.argument (at_pc i.next c)
+does lay (Some f) c = exec lay c.reg.pc f.instruction.op f.instruction.argument (at_pc f.next c)
 
 -- code is the first cells of memory
 unfoldable pub performed : Layout → Act

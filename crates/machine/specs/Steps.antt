@@ -3,7 +3,8 @@ use Rattle.std.specs.Prelude.{◌≡◌, ℕ, ◌<◌, ◌≤◌, List, length, 
 use Rattle.machine.specs.declared.outcome.Outcome.{Outcome}
 use Rattle.machine.specs.declared.outcome.Outcome.TheVariants.{Spent, Halted, Reading, Space, Fault}
 use Rattle.instructions.specs.Core.{Core}
-use Rattle.machine.specs.Console.{Console, showing}
+use Rattle.port.specs.Meaning.{Meaning}
+use Rattle.machine.specs.Console.{Console, console, showing}
 use Rattle.machine.specs.Step.{Stepped, moved, ended, stopped}
 
 -- the step that ends a run: HALT is one, and any other is none
@@ -27,7 +28,7 @@ abbrev pub step_left : {U : Type 0} → Result U Outcome → Core → Console �
 step_left (Ok u) c w = moved c w
 step_left (Err o) c w = ended_by o c w
 
--- all the bytes are shown; or there is too little space, and none is
-abbrev pub Printed : {U E : Type 0} → List ℕ → Console → Result U E → Console → Type 0
-Printed bs w (Ok u) w' = (length bs ≤ w.space) × (w' ≡ showing bs w)
-Printed bs w (Err e) w' = (w.space < length bs) × (w' ≡ w)
+-- all the bytes are shown; or there is too little space, and none is; the openings stay
+abbrev pub Printed : {U E : Type 0} → List ℕ → Meaning → Result U E → Meaning → Type 0
+Printed bs p (Ok u) q = (length bs ≤ p.space) × (console q ≡ showing bs (console p)) × (q.openings ≡ p.openings)
+Printed bs p (Err e) q = (p.space < length bs) × (console q ≡ console p) × (q.openings ≡ p.openings)

@@ -2,13 +2,12 @@ ghost use Rattle.std.specs.Prelude.{◌≡◌, ◌≤◌, length, take};
 ghost use Rattle.isa.specs.Code.{instruction};
 ghost use Rattle.machine.specs.Fetch.{fetched, followed};
 
-use isa::{Opcode, decode, length_of};
+use isa::{Instruction, decode, length_of};
 
-// The instruction at pc: its opcode, its argument cell or 0, and the address after it.
+// The instruction at pc, and the address after it.
 #[derive(Clone, Copy)]
 pub struct Fetched {
-    pub op: Opcode,
-    pub argument: i32,
+    pub instruction: Instruction,
     pub next: i32,
 }
 
@@ -21,14 +20,15 @@ fn fetch_at(code: &[i32], at: usize) -> Option<Fetched>
     let op = decode(*code.get(at)?)?;
     if length_of(op) == 1 {
         return Some(Fetched {
-            op,
-            argument: 0,
+            instruction: Instruction { op, argument: 0 },
             next: at as i32 + 1,
         });
     }
     Some(Fetched {
-        op,
-        argument: *code.get(at + 1)?,
+        instruction: Instruction {
+            op,
+            argument: *code.get(at + 1)?,
+        },
         next: at as i32 + 2,
     })
 }

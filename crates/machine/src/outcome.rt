@@ -41,7 +41,7 @@ pub(crate) struct NoSpace;
 impl From<NoSpace> for Outcome {
     ghost from_gives = { λ _ outcome. outcome ≡ Space };
 
-    fn from(_none: NoSpace) -> Outcome {
+    fn from(_: NoSpace) -> Outcome {
         Outcome::Space
     }
 }

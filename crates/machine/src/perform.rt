@@ -3,7 +3,7 @@ ghost use Rattle.instructions.specs.Core.{Sound, core};
 ghost use Rattle.instructions.specs.Effects.{left, Held};
 ghost use Rattle.machine.specs.Step.{performed};
 
-use crate::fetch::fetch;
+use crate::fetch::{Fetched, fetch};
 use instructions::{Effect, Layout, Registers, execute};
 use program::MachineCause;
 
@@ -20,7 +20,9 @@ pub(crate) fn perform(
     ensures held { Held result r.new memory.old memory.new }
 {
     let at = r.pc;
-    let instruction = fetch(layout.code, at, memory).ok_or(MachineCause::NoInstruction)?;
-    r.pc = instruction.next;
+    let Fetched { instruction, next } = fetch(layout.code, at, memory).ok_or(
+        MachineCause::NoInstruction,
+    )?;
+    r.pc = next;
     execute(layout, at, instruction.op, instruction.argument, r, memory)
 }

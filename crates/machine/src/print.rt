@@ -21,8 +21,7 @@ fn show_bytes<P: Port>(bytes: &[u8], port: &mut P)
 
 // Shows all the bytes if there is space for them.
 fn print_bytes<P: Port>(bytes: &[u8], port: &mut P) -> Result<(), NoSpace>
-    ensures shows { Printed bytes.now (console (P.meaning port.old)) result (console (P.meaning port.new)) }
-    ensures openings { (P.meaning port.new).openings ≡ (P.meaning port.old).openings }
+    ensures { Printed bytes.now (P.meaning port.old) result (P.meaning port.new) }
 {
     if bytes.len() > port.space() {
         return Err(NoSpace);
@@ -33,8 +32,7 @@ fn print_bytes<P: Port>(bytes: &[u8], port: &mut P) -> Result<(), NoSpace>
 
 // Shows a text, if there is space for all of it.
 pub(crate) fn print<P: Port>(text: Text, port: &mut P) -> Result<(), NoSpace>
-    ensures shows { Printed (written text) (console (P.meaning port.old)) result (console (P.meaning port.new)) }
-    ensures openings { (P.meaning port.new).openings ≡ (P.meaning port.old).openings }
+    ensures { Printed (written text) (P.meaning port.old) result (P.meaning port.new) }
 {
     match text {
         Text::Byte(byte) => print_bytes(&[byte], port),

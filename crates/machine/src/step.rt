@@ -13,7 +13,7 @@ use port::Port;
 use program::{Fault, Place};
 
 // Does what an instruction asks of the port, and then moves the registers on to next.
-// Stays: registers and memory apart, since a step that is none keeps the registers, and `put` takes them so.
+// Stays: registers and memory apart; a Processor has one set, and the old set stays until the port has answered.
 fn settle<P: Port>(
     effect: Effect,
     next: Registers,
@@ -47,8 +47,8 @@ fn settle<P: Port>(
     Ok(())
 }
 
-// One step: the instruction at pc, and what the port gives or takes for it. An outcome ends the run; it is of a step
-// that was none, but for that of HALT.
+// One step: the instruction at pc, and what the port gives or takes for it. An outcome ends the run: the step was
+// HALT, or nothing was done.
 #[tactic(auto, using(crate::proofs::Stepping::answered_held), unfolding(crate::specs::Step::step))]
 pub(crate) fn step<P: Port>(
     layout: Layout,

@@ -3,6 +3,7 @@
 // Runs a site text for a number of steps, for measurements: `speed run FILE STEPS` prints the steps, pc and how many
 // bytes were shown, and `speed cells FILE` prints the counts and cells that another interpreter can run.
 use assembler::assemble;
+use bench::Refusal;
 use machine::{Machine, Outcome, bench_start, run};
 use port::{BoardPort, Port};
 use program::{Counts, Label, Unit};
@@ -56,9 +57,7 @@ fn measure(rt: &HostRuntime, text: &[u8], steps: Option<u32>) -> anyhow::Result<
     let program = match assemble(text, b"", &mut memory, &mut labels, &mut units) {
         Ok(program) => program,
         Err(fault) => {
-            let cause = fault.number();
-            let place = fault.place().number();
-            println!(rt; "refused {cause} {place}")?;
+            println!(rt; "{}", Refusal(fault))?;
             return Ok(());
         }
     };
@@ -83,8 +82,6 @@ fn main(rt: HostRuntime) -> anyhow::Result<()> {
         return Ok(());
     };
     let text = fs::read(&rt, path)?;
-    match args.next() {
-        Some(steps) => measure(&rt, &text, Some(steps.parse::<u32>()?)),
-        None => measure(&rt, &text, None),
-    }
+    let steps = args.next().map(|s| s.parse::<u32>()).transpose()?;
+    measure(&rt, &text, steps)
 }

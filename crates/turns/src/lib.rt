@@ -34,14 +34,9 @@ pub fn run_turns<P: Port>(
     ensures { Answered (first + second) machine.old machine.new memory.old memory.new (P.meaning port.old) (P.meaning port.new) result }
 {
     let report = run(machine, memory, port, first)?;
-    match report.outcome {
-        Outcome::Spent => {
-            let more = run(machine, memory, port, second)?;
-            Ok(together(report, more))
-        }
-        _ => Ok(Turns {
-            steps: u64::from(report.steps),
-            outcome: report.outcome,
-        }),
+    if report.outcome != Outcome::Spent {
+        return Ok(Turns::from(report));
     }
+    let more = run(machine, memory, port, second)?;
+    Ok(together(report, more))
 }
