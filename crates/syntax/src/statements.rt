@@ -121,15 +121,15 @@ fn section_named(word: &[u8]) -> Option<Section>
 }
 
 // What follows a dot.
+#[tactic(auto, using(crate::proofs::Directives::unit_directive))]
 fn directive_statement<'a>(line: &'a [u8]) -> Option<Statement<'a>>
     ensures { formed result ≡ directive (tokens line.now) }
 {
     let (word, line) = take_name(line)?;
-    match section_named(word) {
-        Some(section) => only(line, Statement::Enter(section)),
-        None if is_word(word, b"unit") => unit_statement(line),
-        None => None,
+    if is_word(word, b"unit") {
+        return unit_statement(line);
     }
+    only(line, Statement::Enter(section_named(word)?))
 }
 
 // A number or a label.
