@@ -34,8 +34,7 @@ fn is_token_known(labels: &[Label], token: Token) -> bool
 {
     match token {
         Token::Name(name) => is_known(labels, name),
-        Token::Text(_) => true,
-        Token::Number(_) | Token::Character(_) | Token::Sign(_) => true,
+        _ => true,
     }
 }
 
@@ -70,10 +69,7 @@ fn is_resolved(labels: &[Label], statement: Statement) -> bool
 fn is_line_resolved(labels: &[Label], line: &[u8]) -> bool
     ensures { result ≡ resolved (map mark_of labels.now) (form line.now) }
 {
-    match statement_of(line) {
-        Ok(statement) => is_resolved(labels, statement),
-        Err(_) => true,
-    }
+    statement_of(line).map_or(true, |statement| is_resolved(labels, statement))
 }
 
 // The first line with a name that has no label.

@@ -24,7 +24,7 @@ fn base_of(tally: Tally, section: Section) -> usize
 }
 
 // An address, which has 32 bits.
-fn address_of(address: usize) -> u32
+pub(crate) fn address_of(address: usize) -> u32
     ensures { result ≡ word address }
 {
     u32::try_from(address).unwrap_or(0)

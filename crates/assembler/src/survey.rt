@@ -11,6 +11,7 @@ ghost use Rattle.syntax.specs.Forms.{form};
 ghost use Rattle.syntax.specs.Limits.{Limited, ShortLabel};
 ghost use Rattle.syntax.specs.Stated.{label_of, stated};
 
+use crate::layout::address_of;
 use crate::lists::Lists;
 use crate::named::add;
 use crate::tally::{LineCause, Tally};
@@ -84,7 +85,7 @@ fn add_label(tally: Tally, labels: &mut SlotList<Label>, word: &[u8]) -> Result<
     ensures kept { Kept labels.old labels.new }
 {
     let name = Name::new(word).ok_or(AssemblyCause::NoForm)?;
-    let address = extent_of(tally) as u32;
+    let address = address_of(extent_of(tally));
     add(
         labels,
         word,
@@ -133,10 +134,9 @@ impl Lists<'_, '_, '_> {
         requires few { n ≤ 1000 }
         ensures { Stepped self.old self.new tally result (putting (room self.old.labels.now) (room self.old.units.now) (survey_of tally self.old) (label_of label.entry) n) }
     {
-        let Some(word) = label else {
-            return Ok(grow(tally, n));
-        };
-        add_label(tally, self.labels, word)?;
+        if let Some(word) = label {
+            add_label(tally, self.labels, word)?;
+        }
         Ok(grow(tally, n))
     }
 
@@ -218,8 +218,7 @@ impl Lists<'_, '_, '_> {
         ensures grows { Bounded start result }
     {
         let mut tally = start;
-        for (i, line) in Lines::new(text).enumerate() {
-            let number = i as u32 + 1;
+        for (line, number) in Lines::new(text).zip(1..) {
             tally = self.survey_line(line, tally).map_err(|cause| LineCause {
                 line: number,
                 cause,
