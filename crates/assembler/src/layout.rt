@@ -10,19 +10,6 @@ use crate::tally::Tally;
 use program::{Label, Section, Unit};
 use slots::SlotList;
 
-// Where a section begins.
-fn base_of(tally: Tally, section: Section) -> usize
-    requires { Small tally 1000000000 }
-    ensures is { result ≡ base tally section }
-    ensures small { result ≤ 2000000000 }
-{
-    match section {
-        Section::Code => 0,
-        Section::Data => tally.code,
-        Section::Heap => tally.code + tally.data,
-    }
-}
-
 // An address, which has 32 bits.
 pub(crate) fn address_of(address: usize) -> u32
     ensures { result ≡ word address }
@@ -30,13 +17,28 @@ pub(crate) fn address_of(address: usize) -> u32
     u32::try_from(address).unwrap_or(0)
 }
 
-// A label with its address in memory.
-fn placed(tally: Tally, label: Label) -> Label
-    requires { Small tally 1000000000 }
-    ensures { mark_of result ≡ laid tally (mark_of label) }
-{
-    let address = address_of(base_of(tally, label.section) + label.address as usize);
-    Label { address, ..label }
+impl Tally {
+    // Where a section begins.
+    fn base_of(self, section: Section) -> usize
+        requires { Small self 1000000000 }
+        ensures is { result ≡ base self section }
+        ensures small { result ≤ 2000000000 }
+    {
+        match section {
+            Section::Code => 0,
+            Section::Data => self.code,
+            Section::Heap => self.code + self.data,
+        }
+    }
+
+    // A label with its address in memory.
+    fn placed(self, label: Label) -> Label
+        requires { Small self 1000000000 }
+        ensures { mark_of result ≡ laid self (mark_of label) }
+    {
+        let address = address_of(self.base_of(label.section) + label.address as usize);
+        Label { address, ..label }
+    }
 }
 
 // Labels get their addresses in memory.
@@ -46,7 +48,7 @@ pub(crate) fn lay_out(tally: Tally, labels: &mut SlotList<Label>)
     ensures kept { Kept labels.old labels.new }
     ensures len { labels.new.len ≡ labels.old.len }
 {
-    labels.change_each(|label| placed(tally, label));
+    labels.change_each(|label| tally.placed(label));
 }
 
 // The address of the label of that name, or 0.
