@@ -1,4 +1,5 @@
 // Names and the labels that they stand for.
+// Stays: labels are one parameter, a slice that `map mark_of` gives its meaning; a struct would hold that slice alone.
 ghost use Rattle.assembler.specs.Assembly.{forms};
 ghost use Rattle.assembler.specs.Cells.{all_known, resolved, unresolved};
 ghost use Rattle.assembler.specs.Marks.{find as find_mark, mark_of};

@@ -1,4 +1,5 @@
 // Sections follow one another in memory: labels get their addresses, and units their entries.
+// Stays: the definitions give 0 too where there is no label or number; a check before has refused such a program.
 ghost use Rattle.assembler.specs.Cells.{base, laid, opening, word};
 ghost use Rattle.assembler.specs.Marks.{entry_of, find as find_mark, mark_of};
 ghost use Rattle.assembler.specs.Progress.{Kept, Small, entries, marks};

@@ -1,5 +1,5 @@
 // The cells of a program, written one after another.
-// Stays: a struct of `written` and `labels` holds a `&mut`, of which each method would promise that it is the same.
+// Stays: unlike in `Lists`, one of the two is only read; behind `&mut self` each method must promise that it stays.
 ghost use Rattle.assembler.specs.Assembly.{forms};
 ghost use Rattle.assembler.specs.Cells.{all, both, cell, in_cell, items_in, same_section, following_section};
 ghost use Rattle.assembler.specs.Marks.{find as find_mark, mark_of};
