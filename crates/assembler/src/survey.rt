@@ -143,6 +143,7 @@ impl Lists<'_, '_, '_> {
     }
 
     // n cells where the section allows them.
+    // Stays: `allowed` picks no step; it is the test of `demand` in the definition, whose refusal three callers share.
     fn put_allowed(
         &mut self,
         allowed: bool,
