@@ -8,7 +8,10 @@ use Rattle.program.specs.Names.{same, name_of}
 use Rattle.program.specs.declared.label.Label.{Label}
 use Rattle.syntax.specs.Cells.{items, items_of}
 use Rattle.syntax.specs.Forms.{byte, Form, form}
+use Rattle.syntax.specs.Meant.{meant}
 use Rattle.syntax.specs.Tokens.{Tok}
+use Rattle.syntax.specs.declared.tokens.Token.{Token}
+use Rattle.syntax.specs.declared.tokens.Token.TheVariants.{Name, Number, Character, Text, Sign}
 use Rattle.assembler.specs.Cells.{known, all_known, resolved, unresolved}
 use Rattle.assembler.specs.Marks.{Mark, mark_of, find}
 
@@ -42,9 +45,17 @@ module _ (ls : List Mark) where
   known_tokens (t ∷ ts) = ap (λ b. all_known ls (items_of t) && b) (known_tokens ts) ∙ sym (list_all-append (known ls) (items_of t) (items ts))
 
   -- quoted bytes need no label
-  pub known_bytes : (bs : List ℕ) → true ≡ all_known ls (map byte bs)
+  known_bytes : (bs : List ℕ) → true ≡ all_known ls (map byte bs)
   known_bytes [] = refl
   known_bytes (b ∷ bs) = known_bytes bs
+
+  -- nor does any token but a name
+  pub known_else : (t : Token) → ((w : Bor (List ℕ)) → t ≡ Name w → ⊥) → true ≡ all_known ls (items_of (meant t))
+  known_else (Name w) h = absurd (h w refl)
+  known_else (Number ds) h = refl
+  known_else (Character c) h = refl
+  known_else (Text s) h = known_bytes s.now
+  known_else (Sign c) h = refl
 
   unresolved_yes : (k : ℕ) (f : Form) (fs : List Form) → resolved ls f ≡ true → unresolved ls k (f ∷ fs) ≡ unresolved ls (suc k) fs
   unresolved_yes k f fs e = rw (e, unresolved) refl

@@ -18,7 +18,7 @@ pub fn assemble(
     ensures { Assembles site.now library.now result (handed memory.old labels.old units.old) (handed memory.new labels.new units.new) }
 {
     let cells = memory.len();
-    if cells < 16 || cells > 65536 {
+    if !(16..=65536).contains(&cells) {
         return Err(Fault::Assembly(AssemblyCause::MemorySize, Place::Nowhere));
     }
     if site.len() > 65536 {

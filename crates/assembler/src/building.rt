@@ -61,7 +61,7 @@ fn finished(counts: Counts) -> Result<Assembled, Fault>
 }
 
 // Surveyed lines become a program, if it fits its memory and every name has a label.
-// Stays: with a struct that owned labels and units `assemble_fit` did not prove; what their lent slots end as stayed open.
+// Stays: a struct that owned the lists left open how lent slots end; one that borrows must say of each that it stays.
 fn link(
     cells: usize,
     tally: Tally,

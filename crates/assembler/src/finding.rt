@@ -1,4 +1,5 @@
 // Names and the labels that they stand for.
+// Stays: labels are one parameter, a slice that `map mark_of` gives its meaning; a struct would hold that slice alone.
 ghost use Rattle.assembler.specs.Assembly.{forms};
 ghost use Rattle.assembler.specs.Cells.{all_known, resolved, unresolved};
 ghost use Rattle.assembler.specs.Marks.{find as find_mark, mark_of};
@@ -34,8 +35,7 @@ fn is_token_known(labels: &[Label], token: Token) -> bool
 {
     match token {
         Token::Name(name) => is_known(labels, name),
-        Token::Text(_) => true,
-        Token::Number(_) | Token::Character(_) | Token::Sign(_) => true,
+        _ => true,
     }
 }
 
@@ -70,10 +70,7 @@ fn is_resolved(labels: &[Label], statement: Statement) -> bool
 fn is_line_resolved(labels: &[Label], line: &[u8]) -> bool
     ensures { result ≡ resolved (map mark_of labels.now) (form line.now) }
 {
-    match statement_of(line) {
-        Ok(statement) => is_resolved(labels, statement),
-        Err(_) => true,
-    }
+    statement_of(line).map_or(true, |statement| is_resolved(labels, statement))
 }
 
 // The first line with a name that has no label.

@@ -1,4 +1,5 @@
 // Sections follow one another in memory: labels get their addresses, and units their entries.
+// Stays: the definitions give 0 too where there is no label or number; a check before has refused such a program.
 ghost use Rattle.assembler.specs.Cells.{base, laid, opening, word};
 ghost use Rattle.assembler.specs.Marks.{entry_of, find as find_mark, mark_of};
 ghost use Rattle.assembler.specs.Progress.{Kept, Small, entries, marks};
@@ -10,33 +11,35 @@ use crate::tally::Tally;
 use program::{Label, Section, Unit};
 use slots::SlotList;
 
-// Where a section begins.
-fn base_of(tally: Tally, section: Section) -> usize
-    requires { Small tally 1000000000 }
-    ensures is { result ≡ base tally section }
-    ensures small { result ≤ 2000000000 }
-{
-    match section {
-        Section::Code => 0,
-        Section::Data => tally.code,
-        Section::Heap => tally.code + tally.data,
-    }
-}
-
 // An address, which has 32 bits.
-fn address_of(address: usize) -> u32
+pub(crate) fn address_of(address: usize) -> u32
     ensures { result ≡ word address }
 {
     u32::try_from(address).unwrap_or(0)
 }
 
-// A label with its address in memory.
-fn placed(tally: Tally, label: Label) -> Label
-    requires { Small tally 1000000000 }
-    ensures { mark_of result ≡ laid tally (mark_of label) }
-{
-    let address = address_of(base_of(tally, label.section) + label.address as usize);
-    Label { address, ..label }
+impl Tally {
+    // Where a section begins.
+    fn base_of(self, section: Section) -> usize
+        requires { Small self 1000000000 }
+        ensures is { result ≡ base self section }
+        ensures small { result ≤ 2000000000 }
+    {
+        match section {
+            Section::Code => 0,
+            Section::Data => self.code,
+            Section::Heap => self.code + self.data,
+        }
+    }
+
+    // A label with its address in memory.
+    fn placed(self, label: Label) -> Label
+        requires { Small self 1000000000 }
+        ensures { mark_of result ≡ laid self (mark_of label) }
+    {
+        let address = address_of(self.base_of(label.section) + label.address as usize);
+        Label { address, ..label }
+    }
 }
 
 // Labels get their addresses in memory.
@@ -46,7 +49,7 @@ pub(crate) fn lay_out(tally: Tally, labels: &mut SlotList<Label>)
     ensures kept { Kept labels.old labels.new }
     ensures len { labels.new.len ≡ labels.old.len }
 {
-    labels.change_each(|label| placed(tally, label));
+    labels.change_each(|label| tally.placed(label));
 }
 
 // The address of the label of that name, or 0.

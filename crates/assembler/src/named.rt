@@ -8,7 +8,7 @@ ghost use Rattle.slots.specs.Items.{items, room};
 use program::{AssemblyCause, Label, Name, Unit};
 use slots::SlotList;
 
-// What has a name in small letters.
+// A label or a unit: a record with a name, whose letters are small.
 pub trait Named {
     ghost named: { Self → List ℕ };
 

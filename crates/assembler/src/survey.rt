@@ -11,6 +11,7 @@ ghost use Rattle.syntax.specs.Forms.{form};
 ghost use Rattle.syntax.specs.Limits.{Limited, ShortLabel};
 ghost use Rattle.syntax.specs.Stated.{label_of, stated};
 
+use crate::layout::address_of;
 use crate::lists::Lists;
 use crate::named::add;
 use crate::tally::{LineCause, Tally};
@@ -19,50 +20,52 @@ use program::{AssemblyCause, Label, Name, Section, Unit};
 use slots::SlotList;
 use syntax::{Lines, Statement, cells_of, in_range, statement_of};
 
-// How many cells the section at hand has.
-fn extent_of(tally: Tally) -> usize
-    ensures { result ≡ extent tally tally.section }
-{
-    match tally.section {
-        Section::Code => tally.code,
-        Section::Data => tally.data,
-        Section::Heap => tally.heap,
+impl Tally {
+    // How many cells the section at hand has.
+    fn extent(self) -> usize
+        ensures { result ≡ extent self self.section }
+    {
+        match self.section {
+            Section::Code => self.code,
+            Section::Data => self.data,
+            Section::Heap => self.heap,
+        }
     }
-}
 
-// Does the section at hand hold code?
-fn is_code(tally: Tally) -> bool
-    ensures { result ≡ is_code tally.section }
-{
-    tally.section == Section::Code
-}
-
-// n more cells in the section at hand.
-fn grow(tally: Tally, n: usize) -> Tally
-    requires small { Small tally 1000000000 }
-    requires few { n ≤ 1000 }
-    ensures is { result ≡ grown tally n }
-    ensures grows { (m : ℕ) → Small tally m → Small result (m + 1000) }
-{
-    let mut tally = tally;
-    tally.begun = true;
-    match tally.section {
-        Section::Code => tally.code += n,
-        Section::Data => tally.data += n,
-        Section::Heap => tally.heap += n,
+    // Does the section at hand hold code?
+    fn is_code(self) -> bool
+        ensures { result ≡ is_code self.section }
+    {
+        self.section == Section::Code
     }
-    tally
-}
 
-// Lines of another section follow.
-fn enter(tally: Tally, section: Section) -> Tally
-    ensures is { result ≡ entered tally section }
-    ensures grows { (m : ℕ) → Small tally m → Small result (m + 1000) }
-{
-    Tally {
-        section,
-        begun: true,
-        ..tally
+    // n more cells in the section at hand.
+    fn grow(self, n: usize) -> Tally
+        requires small { Small self 1000000000 }
+        requires few { n ≤ 1000 }
+        ensures is { result ≡ grown self n }
+        ensures grows { (m : ℕ) → Small self m → Small result (m + 1000) }
+    {
+        let mut tally = self;
+        tally.begun = true;
+        match tally.section {
+            Section::Code => tally.code += n,
+            Section::Data => tally.data += n,
+            Section::Heap => tally.heap += n,
+        }
+        tally
+    }
+
+    // Lines of another section follow.
+    fn enter(self, section: Section) -> Tally
+        ensures is { result ≡ entered self section }
+        ensures grows { (m : ℕ) → Small self m → Small result (m + 1000) }
+    {
+        Tally {
+            section,
+            begun: true,
+            ..self
+        }
     }
 }
 
@@ -84,7 +87,7 @@ fn add_label(tally: Tally, labels: &mut SlotList<Label>, word: &[u8]) -> Result<
     ensures kept { Kept labels.old labels.new }
 {
     let name = Name::new(word).ok_or(AssemblyCause::NoForm)?;
-    let address = extent_of(tally) as u32;
+    let address = address_of(tally.extent());
     add(
         labels,
         word,
@@ -133,14 +136,14 @@ impl Lists<'_, '_, '_> {
         requires few { n ≤ 1000 }
         ensures { Stepped self.old self.new tally result (putting (room self.old.labels.now) (room self.old.units.now) (survey_of tally self.old) (label_of label.entry) n) }
     {
-        let Some(word) = label else {
-            return Ok(grow(tally, n));
-        };
-        add_label(tally, self.labels, word)?;
-        Ok(grow(tally, n))
+        if let Some(word) = label {
+            add_label(tally, self.labels, word)?;
+        }
+        Ok(tally.grow(n))
     }
 
     // n cells where the section allows them.
+    // Stays: `allowed` picks no step; it is the test of `demand` in the definition, whose refusal three callers share.
     fn put_allowed(
         &mut self,
         allowed: bool,
@@ -184,10 +187,10 @@ impl Lists<'_, '_, '_> {
         ensures { Stepped self.old self.new tally result (taken (room self.old.labels.now) (room self.old.units.now) (survey_of tally self.old) (stated statement.entry)) }
     {
         let n = cells_of(statement);
-        let code = is_code(tally);
+        let code = tally.is_code();
         match statement {
             Statement::Empty => Ok(tally),
-            Statement::Enter(section) => Ok(enter(tally, section)),
+            Statement::Enter(section) => Ok(tally.enter(section)),
             Statement::Unit(name, arguments, results) => self.declare(
                 tally, name, arguments, results,
             ),
@@ -218,8 +221,7 @@ impl Lists<'_, '_, '_> {
         ensures grows { Bounded start result }
     {
         let mut tally = start;
-        for (i, line) in Lines::new(text).enumerate() {
-            let number = i as u32 + 1;
+        for (line, number) in Lines::new(text).zip(1..) {
             tally = self.survey_line(line, tally).map_err(|cause| LineCause {
                 line: number,
                 cause,

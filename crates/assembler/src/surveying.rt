@@ -13,15 +13,17 @@ use crate::tally::{LineCause, Tally};
 use crate::texts::Texts;
 use program::{Fault, Place, Section, Text};
 
-// Another text begins in .CODE.
-fn reopened(tally: Tally) -> Tally
-    ensures is { result ≡ opened tally }
-    ensures small { (n : ℕ) → Small tally n → Small result n }
-{
-    Tally {
-        section: Section::Code,
-        begun: false,
-        ..tally
+impl Tally {
+    // Another text begins in .CODE.
+    fn reopened(self) -> Tally
+        ensures is { result ≡ opened self }
+        ensures small { (n : ℕ) → Small self n → Small result n }
+    {
+        Tally {
+            section: Section::Code,
+            begun: false,
+            ..self
+        }
     }
 }
 
@@ -50,7 +52,7 @@ impl Lists<'_, '_, '_> {
         let tally = self
             .survey_text(texts.site, start)
             .map_err(|found| line_fault(Text::Site, found))?;
-        self.survey_text(texts.library, reopened(tally))
+        self.survey_text(texts.library, tally.reopened())
             .map_err(|found| line_fault(Text::Library, found))
     }
 }

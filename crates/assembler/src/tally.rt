@@ -2,7 +2,7 @@ use program::{AssemblyCause, Section};
 
 // How far the lines so far have come: the section at hand, whether a line of this text has come that is neither
 // blank nor .UNIT, and how many cells each section has.
-// Stays: no fact of the type bounds the cells, for the bound grows with each line, and `grow` would break a fixed one.
+// Stays: with a bound in the type, all that leads to `grow` keeps a clause, since 1,000 cells more must lie within it.
 #[derive(Clone, Copy)]
 pub struct Tally {
     pub section: Section,

@@ -1,5 +1,5 @@
 // The cells of a program, written one after another.
-// Stays: a struct of `written` and `labels` holds a `&mut`, of which each method would promise that it is the same.
+// Stays: unlike in `Lists`, one of the two is only read; behind `&mut self` each method must promise that it stays.
 ghost use Rattle.assembler.specs.Assembly.{forms};
 ghost use Rattle.assembler.specs.Cells.{all, both, cell, in_cell, items_in, same_section, following_section};
 ghost use Rattle.assembler.specs.Marks.{find as find_mark, mark_of};
@@ -119,9 +119,7 @@ fn put_statement(written: &mut SlotList<i32>, labels: &[Label], statement: State
             cells_of(statement),
             number_cell(number),
         ),
-        Statement::Empty => (),
-        Statement::Enter(_) => (),
-        Statement::Unit(_, _, _) => (),
+        Statement::Empty | Statement::Enter(_) | Statement::Unit(_, _, _) => (),
     }
 }
 
@@ -135,16 +133,6 @@ fn section_after(section: Section, statement: Statement) -> Section
     }
 }
 
-// The cells of a statement, if they are wanted.
-fn put_wanted(written: &mut SlotList<i32>, labels: &[Label], wanted: bool, statement: Statement)
-    ensures { Puts written.old written.new (map (cell (map mark_of labels.now)) (if wanted then cells (stated statement.entry) else [])) }
-{
-    if !wanted {
-        return;
-    }
-    put_statement(written, labels, statement)
-}
-
 // The cells of a line, if they are wanted; and the section of the lines after it.
 fn put_line(
     written: &mut SlotList<i32>,
@@ -156,13 +144,13 @@ fn put_line(
     ensures cells { Puts written.old written.new (map (cell (map mark_of labels.now)) (if wanted then cells (form line.now) else [])) }
     ensures section { result ≡ following_section section (form line.now) }
 {
-    match statement_of(line) {
-        Ok(statement) => {
-            put_wanted(written, labels, wanted, statement);
-            section_after(section, statement)
-        }
-        Err(_) => section,
+    let Ok(statement) = statement_of(line) else {
+        return section;
+    };
+    if wanted {
+        put_statement(written, labels, statement);
     }
+    section_after(section, statement)
 }
 
 // The cells of one section of a text.

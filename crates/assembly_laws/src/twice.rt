@@ -5,7 +5,7 @@ use assembler::assemble;
 use program::{Assembled, Fault, Label, Unit};
 
 // The same texts, assembled into one memory and then into the other.
-// Stays: a struct of memory and slots holds three `&mut`, and the promise would speak of its exit by position.
+// Stays: the public signature lends each slice, as `assemble` does; a struct of them would be taken apart at once.
 fn assemble_both(
     site: &[u8],
     library: &[u8],

@@ -1,5 +1,6 @@
 pub mod Runs
 pub mod Cuts
+mod Directives
 pub mod Counting
 pub mod Tokened
 pub mod Listed

@@ -32,7 +32,7 @@ pub(crate) fn is_blank(byte: u8) -> bool
     matches!(byte, b' ' | b'\t')
 }
 
-// How many bytes at the front pass; the closure answers a test p.
+// How many bytes stand at the front for which the closure answers true.
 pub(crate) fn run_len<F: Fn(u8) -> bool>(line: &[u8], passes: F) -> usize
     requires { F.IsAlwaysCallable passes }
     ensures within { result ≤ length line.now }

@@ -17,17 +17,12 @@ fn cut_line<'a>(text: &'a [u8]) -> (&'a [u8], &'a [u8])
 }
 
 // The first line of a text, without its byte 10, and the text after it.
-#[tactic(auto, using(crate::proofs::Cuts::lines_first))]
 pub fn next_line<'a>(text: &'a [u8]) -> Option<(&'a [u8], &'a [u8])>
     ensures parts { MatchOption result (text.now ≡ []) (λ p. (p.0.now ≡ front not_end text.now) × (p.1.now ≡ drop 1 (after not_end text.now))) }
     ensures lines { MatchOption result (lines text.now ≡ []) (λ p. lines text.now ≡ p.0.now ∷ lines p.1.now) }
     ensures shorter { MatchOption result (length text.now ≡ 0) (λ p. length p.1.now < length text.now) }
 {
-    if text.is_empty() {
-        None
-    } else {
-        Some(cut_line(text))
-    }
+    (!text.is_empty()).then(|| cut_line(text))
 }
 
 // The line of this number, counted from 1.

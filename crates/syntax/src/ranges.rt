@@ -35,7 +35,7 @@ fn is_argument(op: Opcode, argument: Option<Argument>) -> bool
             Operand::Count => is_within(number, 0, 1000),
             _ => is_cell(number),
         },
-        Some(Argument::Label(_)) | None => true,
+        _ => true,
     }
 }
 
@@ -44,7 +44,7 @@ fn is_figure(token: Token) -> bool
 {
     match token {
         Token::Number(number) => is_cell(number),
-        Token::Name(_) | Token::Character(_) | Token::Text(_) | Token::Sign(_) => true,
+        _ => true,
     }
 }
 

@@ -55,6 +55,7 @@ impl From<LineFault> for AssemblyCause {
     }
 }
 
+// Stays: each reader answers what it read and the rest, as a rule of the project asks of the token reader.
 // Stays: take_name, take_number and take_value are one match each; one reader with a closure would keep all three.
 fn take_name<'a>(line: &'a [u8]) -> Option<(&'a [u8], &'a [u8])>
     ensures { MatchOption result ((k : List ℕ → List Tok → Form) → then_name (tokens line.now) k ≡ unfit) (λ p. (k : List ℕ → List Tok → Form) → then_name (tokens line.now) k ≡ k (smalls p.0.now) (tokens p.1.now)) }
@@ -121,15 +122,15 @@ fn section_named(word: &[u8]) -> Option<Section>
 }
 
 // What follows a dot.
+#[tactic(auto, using(crate::proofs::Directives::unit_directive))]
 fn directive_statement<'a>(line: &'a [u8]) -> Option<Statement<'a>>
     ensures { formed result ≡ directive (tokens line.now) }
 {
     let (word, line) = take_name(line)?;
-    match section_named(word) {
-        Some(section) => only(line, Statement::Enter(section)),
-        None if is_word(word, b"unit") => unit_statement(line),
-        None => None,
+    if is_word(word, b"unit") {
+        return unit_statement(line);
     }
+    only(line, Statement::Enter(section_named(word)?))
 }
 
 // A number or a label.

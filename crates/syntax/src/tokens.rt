@@ -101,8 +101,7 @@ fn first_token<'a>(line: &'a [u8]) -> Option<(Token<'a>, &'a [u8])>
 {
     let (_, rest) = line.split_at(run_len(line, is_blank));
     match rest {
-        [] => None,
-        [b';' | b'#', ..] => None,
+        [] | [b';' | b'#', ..] => None,
         _ => Some(token_at(rest)),
     }
 }
