@@ -137,9 +137,11 @@ fn untouched(rt: HostRuntime) -> Result<(), Fail> {
 }
 
 // A full memory of HALT that begins with so many branches, each after a PUSH 0, to the targets of their numbers.
-fn branches(count: usize, target: impl Fn(i32) -> i32) -> [i32; 65536] {
+fn branches<F: Fn(u16) -> i32>(count: u16, target: F) -> [i32; 65536]
+    requires { F.IsAlwaysCallable target }
+{
     let mut cells = [42; 65536];
-    for (k, four) in (0..).zip(cells.chunks_exact_mut(4).take(count)) {
+    for (k, four) in (0..count).zip(cells.chunks_exact_mut(4)) {
         four.copy_from_slice(&[1, 0, 21, target(k)]);
     }
     cells
@@ -148,7 +150,7 @@ fn branches(count: usize, target: impl Fn(i32) -> i32) -> [i32; 65536] {
 // Every branch goes back to an address that has its place.
 #[test]
 fn long_programs(rt: HostRuntime) -> Result<(), Fail> {
-    let cells = branches(16383, |k| 4 * k);
+    let cells = branches(16383, |k| 4 * i32::from(k));
     let mut plan = [None; 65536];
     let mut visits = [0; 65536];
     assert!(rt; judge(&rt, &cells, 65533, &[], &mut plan, &mut visits) == Ok(()));
@@ -158,7 +160,7 @@ fn long_programs(rt: HostRuntime) -> Result<(), Fail> {
 // Every branch goes far on, to an address that has no place yet.
 #[test]
 fn far_branches(rt: HostRuntime) -> Result<(), Fail> {
-    let cells = branches(8192, |k| 65535 - k);
+    let cells = branches(8192, |k| 65535 - i32::from(k));
     let mut plan = [None; 65536];
     let mut visits = [0; 65536];
     assert!(rt; judge(&rt, &cells, 65536, &[], &mut plan, &mut visits) == Ok(()));
