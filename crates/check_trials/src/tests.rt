@@ -26,10 +26,9 @@ fn judge(
         units: units.len(),
     };
     let program = Assembled::new(counts).expect(rt, "a program has these counts");
-    match check(program, cells, units, plan, visits) {
-        Ok(_) => Ok(()),
-        Err(refused) => Err(Refusal(refused.fault.number(), refused.fault.place().number())),
-    }
+    check(program, cells, units, plan, visits)
+        .map(|_| ())
+        .map_err(|refused| Refusal(refused.fault.number(), refused.fault.place().number()))
 }
 
 // The program alone in 16 cells or more, with tables of 64 places.
@@ -63,6 +62,8 @@ fn net_unit(entry: u32) -> Unit {
     }
 }
 
+// Body and depth of a place in one number.
+// Stays: -1 for an address without a place, so that the plan that is wanted is a plain list of numbers.
 fn depth(planned: Option<Planned>) -> i32 {
     planned.map_or(-1, |planned| {
         1000 * i32::from(planned.body) + i32::from(planned.depth)
@@ -135,16 +136,21 @@ fn untouched(rt: HostRuntime) -> Result<(), Fail> {
     Ok(())
 }
 
+// A full memory of HALT that begins with so many branches, each after a PUSH 0, to the targets of their numbers.
+fn branches<F: Fn(u16) -> i32>(count: u16, target: F) -> [i32; 65536]
+    requires { F.IsAlwaysCallable target }
+{
+    let mut cells = [42; 65536];
+    for (k, four) in (0..count).zip(cells.chunks_exact_mut(4)) {
+        four.copy_from_slice(&[1, 0, 21, target(k)]);
+    }
+    cells
+}
+
 // Every branch goes back to an address that has its place.
 #[test]
 fn long_programs(rt: HostRuntime) -> Result<(), Fail> {
-    let mut cells = [42; 65536];
-    for k in 0..16383usize {
-        cells[4 * k] = 1;
-        cells[4 * k + 1] = 0;
-        cells[4 * k + 2] = 21;
-        cells[4 * k + 3] = 4 * k as i32;
-    }
+    let cells = branches(16383, |k| 4 * i32::from(k));
     let mut plan = [None; 65536];
     let mut visits = [0; 65536];
     assert!(rt; judge(&rt, &cells, 65533, &[], &mut plan, &mut visits) == Ok(()));
@@ -154,13 +160,7 @@ fn long_programs(rt: HostRuntime) -> Result<(), Fail> {
 // Every branch goes far on, to an address that has no place yet.
 #[test]
 fn far_branches(rt: HostRuntime) -> Result<(), Fail> {
-    let mut cells = [42; 65536];
-    for k in 0..8192usize {
-        cells[4 * k] = 1;
-        cells[4 * k + 1] = 0;
-        cells[4 * k + 2] = 21;
-        cells[4 * k + 3] = 65535 - k as i32;
-    }
+    let cells = branches(8192, |k| 65535 - i32::from(k));
     let mut plan = [None; 65536];
     let mut visits = [0; 65536];
     assert!(rt; judge(&rt, &cells, 65536, &[], &mut plan, &mut visits) == Ok(()));

@@ -28,7 +28,7 @@ pub record Underway (P : Program) (w : Work) : Type 0 where
 abbrev pub Ready : Work → Type 0
 Ready w = Underway (judged w) w
 
--- w is v, at work on P, after addresses came to their places
+-- the work on P came from v to w: the marks are right, and addresses came to their places in the table and the list
 pub record Moved (P : Program) (v w : Work) : Type 0 where
   pub is : judged w ≡ P
   pub marked : Marked P.code w.plan.now

@@ -6,7 +6,7 @@ ghost use Rattle.plan.specs.Lawful.{Least, plan_of};
 ghost use Rattle.plan.specs.Programs.{seen};
 ghost use Rattle.program.specs.declared.fault.Fault.TheVariants.{Check};
 
-use crate::division::{mark, unmark};
+use crate::division::unmark;
 use crate::finding::Finding;
 use crate::passed::Passed;
 use crate::work::Work;
@@ -23,12 +23,12 @@ fn explore(program: &Coded, plan: &mut [Option<Planned>], visits: &mut [u32]) ->
     requires unset { (a : ℕ) → slice_index_or plan.old a None ≡ None }
     ensures { MatchResult result (λ _. Least (seen program.now) (plan_of (places_of plan.new))) (λ f. Due (seen program.now) f.cause f.address × Turn (seen program.now) f.cause) }
 {
-    mark(program, plan).map_err(|a| Finding {
-        cause: CheckCause::NoDivision,
-        address: a as i64,
-    })?;
     let mut list = SlotList::new(visits, program.code.len());
     let mut work = Work::new(*program, plan, &mut list);
+    work.mark().map_err(|a| Finding {
+        cause: CheckCause::NoDivision,
+        address: i64::try_from(a).unwrap(),
+    })?;
     work.units_open().map_err(|e| Finding {
         cause: CheckCause::BadEntry,
         address: i64::from(e),

@@ -1,11 +1,11 @@
 // How the code divides into instructions. While the check works, each address that begins one has a mark in the plan
 // table until it has its place.
 ghost use Rattle.std.specs.Prelude.{◌≡◌, ℕ, ◌<◌, ◌≤◌, [], length, None, Decides, MatchResult, slice_index_or};
-ghost use Rattle.checker.specs.Progress.{Ready, Underway, places};
-ghost use Rattle.checker.specs.Work.{Marked, place_in, places_of};
-ghost use Rattle.slots.specs.Items.{items, room};
+ghost use Rattle.checker.specs.Progress.{Ready, Underway, came, judged, places};
+ghost use Rattle.checker.specs.Work.{place_in, places_of};
 ghost use Rattle.isa.specs.Code.{Divides, Divided};
 ghost use Rattle.plan.specs.Programs.{Stops, seen};
+ghost use Rattle.slots.specs.Items.{items, room};
 
 use crate::work::Work;
 use isa::{instruction_at, length_of};
@@ -28,26 +28,6 @@ fn place_in(held: Option<Planned>) -> Option<Planned>
     held.filter(|place| place.depth <= DEEPEST)
 }
 
-// Marks each address that begins an instruction, in a table that is unset. The error is the address at which the
-// code cannot be divided.
-pub(crate) fn mark(program: &Coded, plan: &mut [Option<Planned>]) -> Result<(), usize>
-    requires small { length program.now.code.now ≤ 65536 }
-    requires table { length program.now.code.now ≤ length plan.old }
-    requires unset { (a : ℕ) → slice_index_or plan.old a None ≡ None }
-    ensures { MatchResult result (λ _. Divided program.now.code.now × Marked program.now.code.now plan.new × ((a : ℕ) → slice_index_or (places_of plan.new) a None ≡ None)) (λ a. Stops program.now.code.now a) }
-{
-    // Stays: each step goes on by the length of the instruction that it finds, and writes; no iterator walks so.
-    let mut a = 0;
-    while a < program.code.len() {
-        let Some(i) = instruction_at(program.code, a) else {
-            return Err(a);
-        };
-        plan[a] = Some(MARK);
-        a += length_of(i.op);
-    }
-    Ok(())
-}
-
 // Takes the marks away and leaves the places.
 pub(crate) fn unmark(plan: &mut [Option<Planned>])
     ensures { plan.new ≡ places_of plan.old }
@@ -58,7 +38,7 @@ pub(crate) fn unmark(plan: &mut [Option<Planned>])
 }
 
 impl<'a, 's> Work<'a, 's> {
-    // The work before its first address, on a table that is marked.
+    // The work before its first step.
     pub(crate) fn new(
         program: Coded<'a>,
         plan: &'a mut [Option<Planned>],
@@ -68,17 +48,35 @@ impl<'a, 's> Work<'a, 's> {
         requires few { length program.units.now ≤ 64 }
         requires table { length program.code.now ≤ length plan.old }
         requires slots { length program.code.now ≤ room list.old }
-        requires empty { items list.old ≡ [] }
-        requires marked { Marked program.code.now plan.old }
-        requires bare { (a : ℕ) → slice_index_or (places_of plan.old) a None ≡ None }
         ensures lender { result.plan.ghost_name ≡ plan.entry.ghost_name }
-        ensures ready { Underway (seen program.entry) result }
+        ensures parts { (judged result ≡ seen program.entry) × (result.plan.now ≡ plan.old) × (came result ≡ items list.old) }
     {
         Work {
             program,
             plan,
             list,
         }
+    }
+
+    // Marks each address that begins an instruction, before the work has an address, in a table that is unset. The
+    // error is the address at which the code cannot be divided.
+    pub(crate) fn mark(&mut self) -> Result<(), usize>
+        requires unset { (a : ℕ) → slice_index_or self.old.plan.now a None ≡ None }
+        requires empty { came self.old ≡ [] }
+        ensures lender { self.new.plan.ghost_name ≡ self.old.plan.ghost_name }
+        ensures marked { MatchResult result (λ _. Underway (judged self.old) self.new × Divided self.old.program.code.now) (λ a. Stops self.old.program.code.now a) }
+    {
+        // Stays: each step goes on by the length of the instruction that it finds, and writes; no iterator walks so.
+        let code = self.program.code;
+        let mut a = 0;
+        while a < code.len() {
+            let Some(i) = instruction_at(code, a) else {
+                return Err(a);
+            };
+            self.plan[a] = Some(MARK);
+            a += length_of(i.op);
+        }
+        Ok(())
     }
 
     // The place that the table has for an address.
@@ -94,10 +92,7 @@ impl<'a, 's> Work<'a, 's> {
         requires { Ready self.now }
         ensures { Decides result ((a < length self.now.program.code.now) × Divides self.now.program.code.now a) }
     {
-        if a >= self.program.code.len() {
-            return false;
-        }
-        let held = self.plan[a];
-        held.is_some()
+        let plan = &*self.plan;
+        a < self.program.code.len() && plan[a].is_some()
     }
 }

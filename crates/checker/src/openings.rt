@@ -1,4 +1,5 @@
 // The units: their entries and openings.
+// Stays: an entry is a u32 and becomes an index by `as usize`, since no usize is From a u32.
 ghost use Rattle.std.specs.Prelude.{◌^◌, ◌<◌, pos, Decides, MatchResult};
 ghost use Rattle.checker.specs.Progress.{Ready, judged};
 ghost use Rattle.plan.specs.Causes.{BadUnit};

@@ -1,4 +1,5 @@
 // The walks from the roots, one address at a time.
+// Stays: an address is a u32 and becomes an index by `as usize`, since no usize is From a u32.
 ghost use Rattle.std.specs.Prelude.{◌≡◌, ℕ, ◌<◌, length, pos, Some, None, MatchOption, MatchResult, slice_index_or};
 ghost use Rattle.checker.specs.Progress.{Ready, Moved, places, judged};
 ghost use Rattle.checker.specs.Work.{SetAt, Route, Done, Rooted};
@@ -46,7 +47,8 @@ impl Work<'_, '_> {
             }),
             None => {
                 self.plan[a] = Some(at);
-                self.list.push(a as u32).unwrap();
+                let address = u32::try_from(a).unwrap();
+                self.list.push(address).unwrap();
                 Ok(())
             }
         }
@@ -109,7 +111,7 @@ impl Work<'_, '_> {
         self.arrive(0, Planned { body: 0, depth: 0 })?;
         // Stays: `(1u8..).zip(units)` was tried, and what a step of it gives stayed open in the proof.
         for (k, v) in units.iter().enumerate() {
-            let body = k as u8 + 1;
+            let body = u8::try_from(k + 1).unwrap();
             self.arrive(i64::from(v.entry) + 3, Planned { body, depth: 0 })?;
         }
         Ok(())

@@ -1,7 +1,8 @@
 // The rules, as docs/CHECK.md lists them.
+// Stays: an address is a u32 and becomes an index by `as usize`, since no usize is From a u32.
 ghost use Rattle.std.specs.Prelude.{◌≡◌, ◌-◌, ◌<◌, ◌≤◌, Some, Ok, Err, Decides};
 ghost use Rattle.isa.specs.declared.opcode.Opcode.TheVariants.{Call};
-ghost use Rattle.plan.specs.Kinds.{table, count};
+ghost use Rattle.plan.specs.Kinds.{table, count, kind};
 ghost use Rattle.plan.specs.Programs.{seen, opcode_in};
 ghost use Rattle.plan.specs.Rules.{to, after};
 ghost use Rattle.plan.specs.Rulings.{Ruled, Ontoed, Called, LowIn};
@@ -65,6 +66,13 @@ pub fn row_of(op: Opcode, count: u32) -> Row
     }
 }
 
+// Which rule an opcode has, whatever its count.
+fn kind_of(op: Opcode) -> Kind
+    ensures { result ≡ kind op }
+{
+    row_of(op, 0).kind
+}
+
 // The count in an argument cell; a negative number counts nothing.
 fn count_in(cell: i32) -> u32
     ensures { result ≡ count cell }
@@ -76,7 +84,7 @@ fn count_in(cell: i32) -> u32
 fn address_after(address: u32, i: Instruction) -> i64
     ensures { result ≡ after address i }
 {
-    i64::from(address) + length_of(i.op) as i64
+    i64::from(address) + i64::try_from(length_of(i.op)).unwrap()
 }
 
 // The next instruction follows, if the cells that are used are there.
@@ -87,12 +95,14 @@ fn onto(address: u32, depth: u16, i: Instruction) -> Result<Next, CheckCause>
     let rest = u32::from(depth)
         .checked_sub(row.uses)
         .ok_or(CheckCause::ShallowDepth)?;
-    if row.gives > 1000 || rest + row.gives > 1000 {
-        return Err(CheckCause::TooDeep);
-    }
+    let depth = rest
+        .checked_add(row.gives)
+        .and_then(|sum| u16::try_from(sum).ok())
+        .filter(|depth| *depth <= 1000)
+        .ok_or(CheckCause::TooDeep)?;
     Ok(Next::Onward(Successor {
         address: address_after(address, i),
-        depth: (rest + row.gives) as u16,
+        depth,
     }))
 }
 
@@ -148,7 +158,7 @@ impl Coded<'_> {
         ensures ruled { Ruled (seen self.now) address at.body at.depth i result }
         ensures low { at.depth ≤ 1000 → LowIn result }
     {
-        match row_of(i.op, 0).kind {
+        match kind_of(i.op) {
             Kind::Moves => onto(address, at.depth, i),
             Kind::Pushes if self.is_call(address as usize + 2) => {
                 self.call(address, at.depth, i.argument)

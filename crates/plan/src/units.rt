@@ -1,4 +1,5 @@
 // The units of a program, by their entries and by their bodies.
+// Stays: an address is a u32 and becomes an index by `as usize`, since no usize is From a u32.
 ghost use Rattle.std.specs.Prelude.{◌≡◌, ℕ, suc, ℤ, pos, Some, Decides, MatchOption, ◌≢◌};
 ghost use Rattle.isa.specs.Code.{instruction};
 ghost use Rattle.isa.specs.declared.opcode.Opcode.TheVariants.{Ret};
@@ -42,13 +43,9 @@ impl Coded<'_> {
     pub(crate) fn closes(&self, address: u32, at: Planned) -> bool
         ensures { Decides result ((k : ℕ) × (v : UnitRecord) × Closes (seen self.now) address at.body at.depth k v) }
     {
-        let Some(k) = self.ret_at(address as usize + 1) else {
-            return false;
-        };
-        let Some(v) = self.unit_of(at.body) else {
-            return false;
-        };
-        at.depth == 0 && k == i32::from(v.arguments)
+        let count = self.ret_at(address as usize + 1);
+        self.unit_of(at.body)
+            .is_some_and(|v| at.depth == 0 && count == Some(i32::from(v.arguments)))
     }
 
     // Is an offset in the frame of a place?
@@ -58,9 +55,8 @@ impl Coded<'_> {
         if offset <= 0 {
             return -i32::from(at.depth) < offset;
         }
-        let Some(v) = self.unit_of(at.body) else {
-            return false;
-        };
-        3 <= offset && offset <= i32::from(v.arguments) + 2 + i32::from(v.results)
+        self.unit_of(at.body).is_some_and(|v| {
+            (3..=i32::from(v.arguments) + 2 + i32::from(v.results)).contains(&offset)
+        })
     }
 }

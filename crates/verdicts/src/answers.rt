@@ -34,15 +34,13 @@ fn apply(changes: &[Change], memory: &mut [i32], units: &mut [Unit]) {
 fn write_plan(out: &mut String, plan: &[Option<Planned>]) -> anyhow::Result<()> {
     out.push_str("; plan")?;
     for (address, place) in plan.iter().enumerate() {
-        match *place {
-            Some(Planned { body: 9, depth: 9 }) | None => {}
-            Some(Planned { body, depth }) => write!(out, " {address}:{body}/{depth}")?,
+        if let Some(Planned { body, depth }) = *place {
+            if *place != STALE {
+                write!(out, " {address}:{body}/{depth}")?;
+            }
         }
     }
-    let stale = plan
-        .iter()
-        .filter(|place| matches!(**place, Some(Planned { body: 9, depth: 9 })))
-        .count();
+    let stale = plan.iter().filter(|place| **place == STALE).count();
     write!(out, ", {stale} as before")?;
     Ok(())
 }

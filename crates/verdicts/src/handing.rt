@@ -30,10 +30,8 @@ fn write_unfit(
         return Ok(None);
     };
     out.push_str("\n  31 cells:")?;
-    match write_check(out, program, &[0; 31], units, &mut plan, &mut visits)? {
-        Ok(_) => Ok(None),
-        Err(program) => Ok(Some(program)),
-    }
+    let answer = write_check(out, program, &[0; 31], units, &mut plan, &mut visits)?;
+    Ok(answer.err())
 }
 
 // Checks a program that has no lawful plan, and once more after its cell is mended, with tables that just suffice.
@@ -52,10 +50,8 @@ fn write_mended(
     };
     memory[15] = 4;
     out.push_str("\n  LOAD 4:")?;
-    match write_check(out, program, memory, units, &mut plan, &mut visits)? {
-        Ok(passed) => Ok(Some(passed)),
-        Err(_) => Ok(None),
-    }
+    let answer = write_check(out, program, memory, units, &mut plan, &mut visits)?;
+    Ok(answer.ok())
 }
 
 // Starts a passed program over memory of another length, which gives it back, and then over its own.

@@ -10,7 +10,8 @@ use Rattle.checker.proofs.checking.explore.Goals as goal
 pub returns : goal.returns
 returns c =
     let P : Program = seen c.args.program.now in
-    let e : judged c.begin.new.self ≡ P = c.in_ok-begin.ensures.begun.0.is ∙ c.new-work.ensures.ready.is in
+    let m : judged c.mark.new.self ≡ judged c.new-work.result = search rules in
+    let e : judged c.begin.new.self ≡ P = c.in_ok-begin.ensures.begun.0.is ∙ (m ∙ c.new-work.ensures.parts.0) in
     let d : Divided P.code = search rules in
     let o : Opened P = search rules in
     explored P _ c.drain.new.self.plan.now c.drain.result (search rules) (record { divided = d; opened = o })

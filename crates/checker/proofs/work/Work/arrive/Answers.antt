@@ -1,4 +1,4 @@
-use Rattle.std.proofs.Common.{◌≡◌, ℕ, List, [], ◌∷◌, ◌++◌, length, get_or, set, ℤ, pos, Some, None, sym, refl, ◌∙◌, subst, arith, w64}
+use Rattle.std.proofs.Common.{◌≡◌, ℕ, List, [], ◌∷◌, ◌++◌, length, get_or, set, ℤ, pos, Some, None, sym, refl, ◌∙◌, subst, arith, rules, w64}
 use Rattle.std.proofs.lemmas.Int.{to_z-of_z}
 use Rattle.slots.specs.Items.{items}
 use Rattle.plan.specs.Programs.{Program}
@@ -32,7 +32,8 @@ returns-in-None-clause-arrived c =
     let low = walk_low P r.0 (pos c.in-Some.a) c.args.at.body c.args.at.depth r.1 in
     let v : places_of (set w.plan.now c.in-Some.a (Some c.args.at)) ≡ set t c.in-Some.a (Some c.args.at) = places_set w.plan.now c.in-Some.a c.args.at low in
     let n = arrived_new P t (came w) c.requires.ready.base c.in-Some.a c.args.at sits (places_room w.plan.now (length P.code) w.table) h r in
-    let p : items c.push.new.self ≡ came w ++ c.in-Some.a ∷ [] = (rw c.unwrap.ensures at c.push.ensures.items).0 in (
+    let m : c.unwrap-address.result ≡ c.in-Some.a = search rules in
+    let p : items c.push.new.self ≡ came w ++ c.in-Some.a ∷ [] = subst (λ (z : ℕ). items c.push.new.self ≡ came w ++ z ∷ []) m (rw c.unwrap.ensures at c.push.ensures.items).0 in (
       record {
         is = refl;
         marked = marked_set P.code w.plan.now c.in-Some.a c.args.at w.table sits.divides c.requires.ready.marked;
