@@ -26,6 +26,7 @@ impl BoardPort {
 impl Port for BoardPort {
     ghost meaning = { on_board };
 
+    #[tactic(auto, using(crate::proofs::Rings::list_more))]
     fn offer(&mut self, reading: Reading) -> Result<(), Fault> {
         let place = self.ring.use_next()?;
         self.readings[place] = reading;

@@ -41,6 +41,7 @@ impl ServicePort<'_> {
 impl<'a> Port for ServicePort<'a> {
     ghost meaning = { in_service };
 
+    #[tactic(auto, using(crate::proofs::Places::places_more))]
     fn offer(&mut self, reading: Reading) -> Result<(), Fault>
         ensures offered { Offered (in_service self.old) reading result (in_service self.new) }
         ensures bytes { held_by self.new ≡ after_offer reading result (held_by self.old) }
