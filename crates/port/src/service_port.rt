@@ -36,7 +36,7 @@ impl ServicePort<'_> {
     }
 }
 
-// Stays: one impl for both ports could promise only what both do; this one promises besides each byte that was lent.
+// Stays: the bodies are calls of what both ports share; one impl would need a trait for readings and for these clauses.
 impl<'a> Port for ServicePort<'a> {
     ghost meaning = { in_service };
 
