@@ -63,7 +63,7 @@ fn trial<P: Port>(
 {
     let mut machine = match bench_start(program, memory) {
         Ok(machine) => machine,
-        Err(back) => return refused(heap, back.fault),
+        Err(refusal) => return refused(heap, refusal.fault),
     };
     match run(&mut machine, memory, port, ALLOWANCE) {
         Ok(report) => ran(heap, report, machine.registers().pc, port),

@@ -53,6 +53,7 @@ fn word(outcome: Outcome) -> &'static str
 }
 
 // The number of the fault; 0 where there is none.
+// Stays: the report has a number for the cause in every line, and promises 0 for a run without a fault.
 fn cause(outcome: Outcome) -> u32
     ensures { result ≡ outcome_cause outcome }
 {

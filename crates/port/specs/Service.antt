@@ -19,11 +19,11 @@ abbrev pub held : List ℕ → List ℕ → ℕ → ℕ → ℕ → Held
 held places bytes first count written = record { places = places; bytes = bytes; first = first; count = count; written = written }
 
 abbrev pub held_by : ServicePort → Held
-held_by s = held s.places.now s.bytes.now s.ring.first s.ring.count s.written
+held_by s = held s.places.now s.bytes.memory.now s.ring.first s.ring.count s.bytes.written
 
 -- the places and bytes that are not used are free
 abbrev pub in_service : ServicePort → Meaning
-in_service s = meant (waiting_in s.places.now s.ring.first s.ring.count) (take s.written s.bytes.now) (places_in s.places.now - s.ring.count) (length s.bytes.now - s.written)
+in_service s = meant (waiting_in s.places.now s.ring.first s.ring.count) (take s.bytes.written s.bytes.memory.now) (places_in s.places.now - s.ring.count) (length s.bytes.memory.now - s.bytes.written)
 
 -- an accepted reading fills the place after the last, and no other byte changes
 abbrev pub after_offer : {U : Type 0} → Reading → Result U Fault → Held → Held
@@ -46,4 +46,4 @@ after_clear h = held h.places h.bytes h.first h.count 0
 
 -- the port still stands over the memories that were lent
 abbrev pub SameLenders : ServicePort → ServicePort → Type 0
-SameLenders s s' = (s'.places.ghost_name ≡ s.places.ghost_name) × (s'.bytes.ghost_name ≡ s.bytes.ghost_name)
+SameLenders s s' = (s'.places.ghost_name ≡ s.places.ghost_name) × (s'.bytes.memory.ghost_name ≡ s.bytes.memory.ghost_name)

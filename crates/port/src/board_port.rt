@@ -3,10 +3,10 @@ ghost use Rattle.port.specs.Meaning.{meant};
 ghost use Rattle.port.specs.Board.{on_board};
 
 use crate::board::{BYTES, BoardPort, READINGS};
-use crate::bytes::{byte_at, put_byte};
 use crate::ports::Port;
 use crate::reading::Reading;
 use crate::ring::Ring;
+use crate::shown_bytes::ShownBytes;
 use program::Fault;
 
 impl BoardPort {
@@ -17,8 +17,7 @@ impl BoardPort {
         BoardPort {
             readings: [Reading { value: 0 }; READINGS],
             ring: Ring::new(READINGS),
-            bytes: [0; BYTES],
-            written: 0,
+            bytes: ShownBytes::new([0; BYTES]),
         }
     }
 }
@@ -26,6 +25,7 @@ impl BoardPort {
 impl Port for BoardPort {
     ghost meaning = { on_board };
 
+    #[tactic(auto, using(crate::proofs::Rings::list_more))]
     fn offer(&mut self, reading: Reading) -> Result<(), Fault> {
         let place = self.ring.use_next()?;
         self.readings[place] = reading;
@@ -38,11 +38,11 @@ impl Port for BoardPort {
     }
 
     fn show(&mut self, byte: u8) -> Result<(), Fault> {
-        put_byte(&mut self.bytes, &mut self.written, byte)
+        self.bytes.put(byte)
     }
 
     fn clear(&mut self) {
-        self.written = 0;
+        self.bytes.clear();
     }
 
     fn openings(&self) -> usize {
@@ -50,14 +50,14 @@ impl Port for BoardPort {
     }
 
     fn space(&self) -> usize {
-        BYTES - self.written
+        self.bytes.space()
     }
 
     fn shown(&self) -> usize {
-        self.written
+        self.bytes.len()
     }
 
     fn shown_at(&self, place: usize) -> Option<u8> {
-        byte_at(&self.bytes, self.written, place)
+        self.bytes.at(place)
     }
 }

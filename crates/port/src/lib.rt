@@ -3,7 +3,7 @@
 // Ports of the gate controller: readings come in, bytes go out.
 mod board;
 mod board_port;
-mod bytes;
+mod memory;
 mod place;
 mod ports;
 mod reading;
@@ -11,6 +11,7 @@ mod ring;
 mod ring_use;
 mod service;
 mod service_port;
+mod shown_bytes;
 #[cfg(test)]
 mod tests;
 

@@ -16,6 +16,7 @@ fn before_space(bytes: &[u8]) -> &[u8]
 }
 
 // The reading that stands at a place: the number that is written there, or 0.
+// Stays: a reading has to come out of each place in use, and the bytes of a lent memory may spell no number: 0 then.
 pub(crate) fn read_place(places: &[u8], place: usize) -> Reading
     requires { place < places_in places.now }
     ensures { result ≡ place_reading places.now place }

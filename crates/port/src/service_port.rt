@@ -3,12 +3,12 @@ ghost use Rattle.port.specs.Meaning.{Offered, Taken, Shown, Cleared, meant};
 ghost use Rattle.port.specs.Place.{places_in, place_reading};
 ghost use Rattle.port.specs.Service.{held_by, held, in_service, after_offer, after_take, after_show, after_clear, SameLenders};
 
-use crate::bytes::{byte_at, put_byte};
 use crate::place::{PLACE, read_place, write_place};
 use crate::ports::Port;
 use crate::reading::Reading;
 use crate::ring::Ring;
 use crate::service::ServicePort;
+use crate::shown_bytes::ShownBytes;
 use program::Fault;
 
 impl<'a> ServicePort<'a> {
@@ -16,13 +16,12 @@ impl<'a> ServicePort<'a> {
     pub fn new(places: &'a mut [u8], bytes: &'a mut [u8]) -> ServicePort<'a>
         ensures empty { in_service result ≡ meant [] [] (places_in places.old) (length bytes.old) }
         ensures bytes { held_by result ≡ held places.old bytes.old 0 0 0 }
-        ensures lenders { (result.places.ghost_name ≡ places.entry.ghost_name) × (result.bytes.ghost_name ≡ bytes.entry.ghost_name) }
+        ensures lenders { (result.places.ghost_name ≡ places.entry.ghost_name) × (result.bytes.memory.ghost_name ≡ bytes.entry.ghost_name) }
     {
         ServicePort {
             ring: Ring::new(places.len() / PLACE),
             places,
-            bytes,
-            written: 0,
+            bytes: ShownBytes::new(bytes),
         }
     }
 }
@@ -37,10 +36,11 @@ impl ServicePort<'_> {
     }
 }
 
-// Stays: a port generic in its memories could not promise which bytes of the lent ones a call changes, as this does.
+// Stays: the bodies are calls of what both ports share; one impl would need a trait for readings and for these clauses.
 impl<'a> Port for ServicePort<'a> {
     ghost meaning = { in_service };
 
+    #[tactic(auto, using(crate::proofs::Places::places_more))]
     fn offer(&mut self, reading: Reading) -> Result<(), Fault>
         ensures offered { Offered (in_service self.old) reading result (in_service self.new) }
         ensures bytes { held_by self.new ≡ after_offer reading result (held_by self.old) }
@@ -65,7 +65,7 @@ impl<'a> Port for ServicePort<'a> {
         ensures bytes { held_by self.new ≡ after_show byte result (held_by self.old) }
         ensures lenders { SameLenders self.old self.new }
     {
-        put_byte(self.bytes, &mut self.written, byte)
+        self.bytes.put(byte)
     }
 
     fn clear(&mut self)
@@ -73,7 +73,7 @@ impl<'a> Port for ServicePort<'a> {
         ensures bytes { held_by self.new ≡ after_clear (held_by self.old) }
         ensures lenders { SameLenders self.old self.new }
     {
-        self.written = 0;
+        self.bytes.clear();
     }
 
     fn openings(&self) -> usize {
@@ -81,14 +81,14 @@ impl<'a> Port for ServicePort<'a> {
     }
 
     fn space(&self) -> usize {
-        self.bytes.len() - self.written
+        self.bytes.space()
     }
 
     fn shown(&self) -> usize {
-        self.written
+        self.bytes.len()
     }
 
     fn shown_at(&self, place: usize) -> Option<u8> {
-        byte_at(self.bytes, self.written, place)
+        self.bytes.at(place)
     }
 }

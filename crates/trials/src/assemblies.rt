@@ -1,7 +1,7 @@
 use crate::quoting::Quoted;
 use assembler::{assemble, source_line};
 use bench::{NET, Refusal};
-use program::{Counts, Fault, Label, Place, Text, Unit};
+use program::{Assembled, Counts, Fault, Label, Place, Text, Unit};
 use std::alloc::Global;
 use std::fmt;
 
@@ -182,7 +182,7 @@ pub(crate) const TEXTS: [TextPair; 33] = [
 ];
 
 // Writes why texts were refused, and the line that is at fault.
-pub(crate) fn write_refusal(
+fn write_refusal(
     out: &mut String,
     fault: Fault,
     site: &[u8],
@@ -203,9 +203,9 @@ pub(crate) fn write_refusal(
 
 // The counts of a program, as `n 32 C 24 D 0 H 0, labels 1, units 1`.
 #[derive(Clone, Copy)]
-pub(crate) struct Tally(pub Counts);
+struct Counted(Counts);
 
-impl fmt::Display for Tally {
+impl fmt::Display for Counted {
     fn fmt<W: fmt::Write>(&self, f: &mut fmt::Formatter<W>) -> fmt::Result {
         let Counts {
             cells,
@@ -220,6 +220,20 @@ impl fmt::Display for Tally {
             "n {cells} C {code} D {data} H {heap}, labels {labels}, units {units}"
         )
     }
+}
+
+// Writes what two texts assembled to: the counts, or the refusal and its line.
+pub(crate) fn write_assembly(
+    out: &mut String,
+    assembly: Result<Assembled, Fault>,
+    site: &[u8],
+    library: &[u8],
+) -> anyhow::Result<()> {
+    match assembly {
+        Ok(program) => write!(out, "{}", Counted(program.counts()))?,
+        Err(fault) => write_refusal(out, fault, site, library)?,
+    }
+    Ok(())
 }
 
 // Writes the labels in slots, zero records left out.
@@ -269,16 +283,9 @@ pub(crate) fn text_answer(heap: Global, text: &TextPair) -> anyhow::Result<Strin
         ..Unit::empty()
     }; 2];
     let mut out = format!(in heap; "{}: ", text.name)?;
-    match assemble(
-        text.site,
-        text.library,
-        &mut memory,
-        &mut labels,
-        &mut units,
-    ) {
-        Ok(program) => write!(out, "{}", Tally(program.counts()))?,
-        Err(fault) => write_refusal(&mut out, fault, text.site, text.library)?,
-    }
+    let TextPair { site, library, .. } = *text;
+    let assembly = assemble(site, library, &mut memory, &mut labels, &mut units);
+    write_assembly(&mut out, assembly, site, library)?;
     write_cells(&mut out, &memory)?;
     write_labels(&mut out, &labels)?;
     write_units(&mut out, &units)?;

@@ -9,7 +9,7 @@ pub(crate) fn example_answer(rt: &HostRuntime, name: &str) -> anyhow::Result<Str
     let input = fs::read(rt, format!(in heap; "{name}.casm")?)?;
     let expected = fs::read(rt, format!(in heap; "{name}.out")?)?;
     let answer = report(heap, &input)?;
-    let same = answer.as_slice() == expected.as_slice();
+    let same = answer == expected;
     let not = if same { "" } else { "not " };
     Ok(format!(in heap; "{not}as in {name}.out")?)
 }

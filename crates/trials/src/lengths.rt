@@ -3,11 +3,11 @@ use assembler::assemble;
 use bench::{NET, Refusal};
 use machine::{Machine, bench_start};
 use port::{BoardPort, Port};
-use program::{Assembled, Label, Unit};
+use program::{Assembled, Label, Refused, Unit};
 use std::alloc::Global;
 
-// Writes what a run over a memory answers.
-fn write_run<P: Port>(
+// Writes the length of a memory and what a run over it answers.
+fn write_run_over<P: Port>(
     out: &mut String,
     machine: &mut Machine,
     memory: &mut [i32],
@@ -29,12 +29,12 @@ fn write_starts(
     let mut port = BoardPort::new();
     match bench_start(program, other) {
         Ok(_) => out.push_str(" started over another memory.")?,
-        Err(back) => {
-            write!(out, " start: {}.", Refusal(back.fault))?;
-            if let Ok(mut machine) = bench_start(back.program, memory) {
-                write_run(out, &mut machine, other, &mut port)?;
-                write_run(out, &mut machine, memory, &mut port)?;
-                write_run(out, &mut machine, other, &mut port)?;
+        Err(Refused { program, fault }) => {
+            write!(out, " start: {}.", Refusal(fault))?;
+            if let Ok(mut machine) = bench_start(program, memory) {
+                write_run_over(out, &mut machine, other, &mut port)?;
+                write_run_over(out, &mut machine, memory, &mut port)?;
+                write_run_over(out, &mut machine, other, &mut port)?;
             }
         }
     }

@@ -3,7 +3,7 @@ use assembler::assemble;
 use bench::{NET, Refusal, outcome_text, refusal_text, shown_bytes};
 use machine::{Machine, bench_start, run};
 use port::{BoardPort, Port, Reading, ServicePort};
-use program::{Assembled, Label, Unit};
+use program::{Assembled, Label, Refused, Unit};
 use std::alloc::{AllocError, Global};
 
 // What is done with a started program: a run, an offer, a clear, or a number put into a cell from outside.
@@ -438,7 +438,7 @@ fn write_shown<P: Port>(out: &mut String, port: &P) -> anyhow::Result<()> {
 }
 
 // Runs a machine for so many steps at most, and answers what came of it.
-// Stays: machine, memory and port are handed on apart, since one machine is also run over other memories (lengths).
+// Stays: lengths runs one machine over two memories, so machine, memory and port stand apart here and in write_act.
 pub(crate) fn run_text<P: Port>(
     heap: Global,
     machine: &mut Machine,
@@ -498,8 +498,8 @@ fn write_acts<P: Port>(
             }
             write_shown(out, port)
         }
-        Err(back) => {
-            write!(out, " {}", Refusal(back.fault))?;
+        Err(Refused { fault, .. }) => {
+            write!(out, " {}", Refusal(fault))?;
             Ok(())
         }
     }
@@ -526,7 +526,7 @@ pub(crate) fn trial_answer(heap: Global, trial: &Trial) -> anyhow::Result<String
     let mut bytes = [0; 64];
     let other = answer_over(heap, trial, &mut ServicePort::new(&mut places, &mut bytes))?;
     let mut out = format!(in heap; "{name}:{answer}")?;
-    if answer.as_str() != other.as_str() {
+    if answer != other {
         write!(out, " but over the service port{other}")?;
     }
     Ok(out)

@@ -1,4 +1,4 @@
-use crate::assemblies::{Tally, write_refusal};
+use crate::assemblies::write_assembly;
 use assembler::assemble;
 use program::{Label, Unit};
 use std::alloc::Global;
@@ -53,18 +53,12 @@ struct Job {
     cells: usize,
 }
 
-fn write_labels(out: &mut String, times: usize) -> anyhow::Result<()> {
+// Writes so many lines, each with a name of its own between the same two texts.
+fn write_names(out: &mut String, before: &str, times: usize, after: &str) -> anyhow::Result<()> {
     for i in 0..times {
-        writeln!(out, "name{i}: NOP")?;
+        writeln!(out, "{before}name{i}{after}")?;
     }
     Ok(())
-}
-
-fn write_units(out: &mut String, times: usize) -> anyhow::Result<()> {
-    for i in 0..times {
-        writeln!(out, ".UNIT name{i}, 0, 0")?;
-    }
-    write_labels(out, times)
 }
 
 // The texts and the memory of a size.
@@ -79,8 +73,11 @@ fn job_of(heap: Global, size: &Size) -> anyhow::Result<Job> {
         Size::Site(n) => job.site = "\n".repeat(heap, n)?,
         Size::Library(n) => job.library = "\n".repeat(heap, n)?,
         Size::Line(n) => job.site = ";".repeat(heap, n)?,
-        Size::Labels(n) => write_labels(&mut job.site, n)?,
-        Size::Units(n) => write_units(&mut job.site, n)?,
+        Size::Labels(n) => write_names(&mut job.site, "", n, ": NOP")?,
+        Size::Units(n) => {
+            write_names(&mut job.site, ".UNIT ", n, ", 0, 0")?;
+            write_names(&mut job.site, "", n, ": NOP")?;
+        }
     }
     Ok(job)
 }
@@ -94,9 +91,7 @@ pub(crate) fn size_answer(heap: Global, size: &Size) -> anyhow::Result<String> {
     let mut units = vec![in heap; Unit::empty(); 70]?;
     let site = job.site.as_bytes();
     let library = job.library.as_bytes();
-    match assemble(site, library, &mut memory, &mut labels, &mut units) {
-        Ok(program) => write!(out, "{}", Tally(program.counts()))?,
-        Err(fault) => write_refusal(&mut out, fault, site, library)?,
-    }
+    let assembly = assemble(site, library, &mut memory, &mut labels, &mut units);
+    write_assembly(&mut out, assembly, site, library)?;
     Ok(out)
 }
