@@ -4,8 +4,7 @@ ghost use Rattle.std.specs.Prelude.{◌≡◌};
 
 use crate::fault::{AssemblyCause, CheckCause, Fault, MachineCause, Place, PortCause};
 
-// Stays: a `number` for each of the four enums of causes, since a trait's body could not cast them all, and a `From`
-// into u32 beside the public `number` would only say it twice.
+// Stays: four functions `number`: a trait's body can't cast four enums, and a `From` beside each would say it twice.
 impl AssemblyCause {
     pub fn number(self) -> u32
         ensures { result ≡ assembly_number self }
