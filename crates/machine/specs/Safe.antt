@@ -1,8 +1,12 @@
 -- What a machine keeps from its start on.
-use Rattle.std.specs.Prelude.{◌≡◌, ◌≤◌, List, length, take, ℤ}
+use Rattle.std.specs.Prelude.{◌≡◌, ℕ, ◌≤◌, List, length, take, ℤ}
 use Rattle.instructions.specs.declared.layout.Layout.{Layout}
 use Rattle.instructions.specs.declared.registers.Registers.{Registers}
-use Rattle.instructions.specs.Core.{Core}
+use Rattle.instructions.specs.Core.{Core, Sound}
+
+-- the registers are sound, and the code lies in memory
+abbrev pub Fits : Layout → Registers → ℕ → Type 0
+Fits lay r n = Sound r n × (lay.code ≤ n)
 
 -- code lies below the floor, the floor is at most the heap's end, the heap ends below the stack, and the stack within
 -- memory; the code's cells are those of the start, and memory is as long

@@ -12,7 +12,7 @@ pub struct Fetched {
 }
 
 // The two lengths go their own ways, so that the next pc does not wait for what the opcode takes.
-// Stays: with isa's instruction_at and length_of a step takes 6.7 ns in place of 5.9, and a print more than before.
+// Stays: with isa's instruction_at the arithmetic loop takes 6.7 ns a step; before this pass, the bar, it took 6.4.
 fn fetch_at(code: &[i32], at: usize) -> Option<Fetched>
     requires { length code.now ≤ 65536 }
     ensures { result ≡ followed at (instruction code.now at) }
@@ -38,9 +38,5 @@ pub(crate) fn fetch(code: usize, pc: i32, memory: &[i32]) -> Option<Fetched>
     requires { (code ≤ length memory.now) × (length memory.now ≤ 65536) }
     ensures { result ≡ fetched (take code memory.now) pc }
 {
-    // Stays: with usize::try_from a step of the prints takes 10.0 ns in place of 9.0.
-    if pc < 0 {
-        return None;
-    }
-    fetch_at(&memory[..code], pc as usize)
+    fetch_at(&memory[..code], usize::try_from(pc).ok()?)
 }

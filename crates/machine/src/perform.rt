@@ -1,6 +1,7 @@
 ghost use Rattle.std.specs.Prelude.{◌≡◌, ◌≤◌, length};
 ghost use Rattle.instructions.specs.Core.{Sound, core};
 ghost use Rattle.instructions.specs.Effects.{left, Held};
+ghost use Rattle.machine.specs.Safe.{Fits};
 ghost use Rattle.machine.specs.Step.{performed};
 
 use crate::fetch::{Fetched, fetch};
@@ -14,7 +15,7 @@ pub(crate) fn perform(
     r: &mut Registers,
     memory: &mut [i32],
 ) -> Result<Effect, MachineCause>
-    requires { (Sound r.old (length memory.old)) × (layout.code ≤ length memory.old) }
+    requires { Fits layout r.old (length memory.old) }
     ensures after { left result r.new memory.new ≡ performed layout (core r.old memory.old) }
     ensures sound { Sound r.new (length memory.old) }
     ensures held { Held result r.new memory.old memory.new }

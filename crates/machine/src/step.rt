@@ -3,6 +3,7 @@ ghost use Rattle.instructions.specs.Core.{Sound, core};
 ghost use Rattle.machine.specs.Console.{console};
 ghost use Rattle.instructions.specs.Effects.{asks, Roomy};
 ghost use Rattle.machine.specs.Step.{answered, step as one_step};
+ghost use Rattle.machine.specs.Safe.{Fits};
 ghost use Rattle.machine.specs.Steps.{step_left};
 
 use crate::outcome::Outcome;
@@ -56,7 +57,7 @@ pub(crate) fn step<P: Port>(
     memory: &mut [i32],
     port: &mut P,
 ) -> Result<(), Outcome>
-    requires { (Sound r.old (length memory.old)) × (layout.code ≤ length memory.old) }
+    requires { Fits layout r.old (length memory.old) }
     ensures after { step_left result (core r.new memory.new) (console (P.meaning port.new)) ≡ one_step layout (core r.old memory.old) (console (P.meaning port.old)) }
     ensures sound { Sound r.new (length memory.old) }
     ensures openings { (P.meaning port.old).openings ≤ (P.meaning port.new).openings }

@@ -2,7 +2,7 @@ ghost use Rattle.std.specs.Prelude.{◌≡◌, ◌≤◌, length};
 ghost use Rattle.instructions.specs.Core.{Sound, core};
 ghost use Rattle.machine.specs.Console.{console};
 ghost use Rattle.machine.specs.Run.{ran, runs};
-ghost use Rattle.machine.specs.Safe.{Kept};
+ghost use Rattle.machine.specs.Safe.{Fits, Kept};
 
 use crate::outcome::{Outcome, Report};
 use crate::step::step;
@@ -17,7 +17,7 @@ pub(crate) fn run_live<P: Port>(
     port: &mut P,
     allowance: u32,
 ) -> Report
-    requires { (Sound r.old (length memory.old)) × (layout.code ≤ length memory.old) }
+    requires { Fits layout r.old (length memory.old) }
     ensures after { ran result.steps result.outcome (core r.new memory.new) (console (P.meaning port.new)) ≡ runs layout 0 allowance (core r.old memory.old) (console (P.meaning port.old)) }
     ensures sound { Sound r.new (length memory.old) }
     ensures code { Kept layout r.old memory.old r.new memory.new }
