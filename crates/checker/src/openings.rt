@@ -62,6 +62,7 @@ impl Work<'_, '_> {
         requires { Ready self.now }
         ensures { MatchResult result (λ _. Opened (judged self.now)) (λ e. BadUnit (judged self.now) (pos e)) }
     {
+        // Stays: `enumerate().find(..)` was tried, and that the units before the found one are good stayed open.
         for (k, v) in self.program.units.iter().enumerate() {
             if !self.opens(k, *v) {
                 return Err(v.entry);

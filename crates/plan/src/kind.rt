@@ -1,5 +1,5 @@
 // Which rule an instruction has at a place.
-// Stays: a rule as a closure in each row of the table would hide which rules there are, and the specs go by these kinds.
+// Stays: a rule as a closure in each row of the table would hide which rules there are, and specs go by the kinds.
 #[derive(Clone, Copy)]
 pub enum Kind {
     // it goes on to the next instruction
