@@ -8,7 +8,7 @@ use crate::place::place;
 use crate::processor::Processor;
 use program::MachineCause;
 
-// Stays: one function for pc, fp and hp keeps the three assignments, in a match or closures, and must name the register.
+// Stays: one function for pc, fp and hp keeps the three assignments, in a match or closures, and names the register.
 impl<'a> Processor<'a> {
     pub(crate) fn store_pc(&mut self) -> Result<Effect, MachineCause>
         ensures { Does (pops at_pc) self.old self.new result }
