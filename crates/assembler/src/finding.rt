@@ -79,5 +79,6 @@ pub(crate) fn unresolved_in(labels: &[Label], text: &[u8]) -> Option<u32>
     ensures { result ≡ unresolved (map mark_of labels.now) 1 (forms text.now) }
 {
     let place = Lines::new(text).position(|line| !is_line_resolved(labels, line))?;
+    // Stays: `as u32`; with `try_from` and `unwrap` the answer's place stayed open in the proof.
     Some(place as u32 + 1)
 }

@@ -40,6 +40,7 @@ impl Tally {
     }
 
     // n more cells in the section at hand.
+    // Stays: here and below `few` and `short` bound one number and one word; a type for either would carry no more.
     fn grow(self, n: usize) -> Tally
         requires small { Small self 1000000000 }
         requires few { n ≤ 1000 }

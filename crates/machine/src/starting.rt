@@ -21,8 +21,8 @@ pub fn bench_start(program: Assembled, memory: &[i32]) -> Result<Machine, Refuse
     let registers = Registers {
         pc: 0,
         sp: counts.cells,
-        fp: counts.cells as i32 - 1,
-        hp: floor as i32,
+        fp: i32::try_from(counts.cells).unwrap() - 1,
+        hp: i32::try_from(floor).unwrap(),
         limit: floor + counts.heap,
     };
     Ok(Machine {

@@ -15,6 +15,7 @@ use program::{Fault, Place};
 
 // Does what an instruction asks of the port, and then moves the registers on to next.
 // Stays: registers and memory apart; a Processor has one set, and the old set stays until the port has answered.
+// Stays: `sound` and `openings` are clauses here, of `step` and of `run_live`; a struct of both would hold the port too.
 fn settle<P: Port>(
     effect: Effect,
     next: Registers,
