@@ -37,7 +37,7 @@ impl Tally {
         requires { Small self 1000000000 }
         ensures { mark_of result ≡ laid self (mark_of label) }
     {
-        // Stays: `as usize`, since no usize is From a u32.
+        // Stays: as usize only widens an address, where try_from would need an unwrap.
         let address = address_of(self.base_of(label.section) + label.address as usize);
         Label { address, ..label }
     }

@@ -10,7 +10,7 @@ use syntax::line_in;
 pub fn source_line<'a>(fault: Fault, site: &'a [u8], library: &'a [u8]) -> Option<&'a [u8]>
     ensures { MatchOption result (line_of (refusal fault).place site.now library.now ≡ None) (λ l. line_of (refusal fault).place site.now library.now ≡ Some l.now) }
 {
-    // Stays: `as usize` makes an index of a line's number, since no usize is From a u32.
+    // Stays: as usize only widens a line's number, where try_from would need an unwrap at each use.
     match fault.place() {
         Place::Line(Text::Site, line) => line_in(site, line as usize),
         Place::Line(Text::Library, line) => line_in(library, line as usize),

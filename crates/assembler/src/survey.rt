@@ -71,6 +71,7 @@ impl Tally {
 }
 
 // A number of a .UNIT line, which is below 256.
+// Stays: 0 where in_range has refused before, as the definitions have it.
 fn octet_of(number: &[u8]) -> u8
     ensures { result ≡ octet (numeral number.now) }
 {
@@ -117,6 +118,7 @@ fn add_unit(
         word,
         Unit {
             name,
+            // Stays: 0 until open_units gives the entry; a record of a unit has no third state.
             entry: 0,
             arguments,
             results,

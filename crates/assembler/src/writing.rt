@@ -49,6 +49,7 @@ fn put_copies(written: &mut SlotList<i32>, count: usize, value: i32)
 }
 
 // The number that digits write, in a cell.
+// Stays: 0 here and in label_cell where a check has refused before, as the definitions have it.
 fn number_cell(digits: &[u8]) -> i32
     ensures { result ≡ in_cell (numeral digits.now) }
 {

@@ -5,6 +5,7 @@ use assembler::assemble;
 use program::{Assembled, Fault, Label, Unit};
 
 // The call of assemble that the laws speak of.
+// Stays: a function of its own, since the laws are proved from its clause; its slices are lent, as assemble's are.
 fn assemble_once(
     site: &[u8],
     library: &[u8],

@@ -38,6 +38,7 @@ fn explore(program: &Coded, plan: &mut [Option<Planned>], visits: &mut [u32]) ->
 }
 
 // Makes every number 0.
+// Stays: a function of its own beside `fill`, since the check's proof cites its clause.
 fn zero(visits: &mut [u32])
     ensures { visits.new ≡ replicate (length visits.old) 0 }
 {

@@ -15,7 +15,7 @@ use slots::SlotList;
 // The depth of a place is at most this.
 const DEEPEST: u16 = 1000;
 
-// Stays: a mark is a place of no depth in the caller's table, whose slots are `Option<Planned>` and have no third case.
+// Stays: a mark is a pair deeper than any place, since the slots are the caller's and have no third case.
 const MARK: Planned = Planned {
     body: 0,
     depth: DEEPEST + 1,
@@ -29,6 +29,7 @@ fn place_in(held: Option<Planned>) -> Option<Planned>
 }
 
 // Takes the marks away and leaves the places.
+// Stays: change_each is of a SlotList, and the plan table is a slice that its owner lends.
 pub(crate) fn unmark(plan: &mut [Option<Planned>])
     ensures { plan.new ≡ places_of plan.old }
 {

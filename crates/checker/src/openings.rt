@@ -1,5 +1,5 @@
 // The units: their entries and openings.
-// Stays: an entry is a u32 and becomes an index by `as usize`, since no usize is From a u32.
+// Stays: an entry is a u32: as usize only widens it, where try_from would need an unwrap at each use.
 ghost use Rattle.std.specs.Prelude.{◌^◌, ◌<◌, pos, Decides, MatchResult};
 ghost use Rattle.checker.specs.Progress.{Ready, judged};
 ghost use Rattle.plan.specs.Causes.{BadUnit};

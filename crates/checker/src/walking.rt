@@ -1,5 +1,5 @@
 // The walks from the roots, one address at a time.
-// Stays: an address is a u32 and becomes an index by `as usize`, since no usize is From a u32.
+// Stays: an address is a u32: as usize only widens it, where try_from would need an unwrap at each use.
 ghost use Rattle.std.specs.Prelude.{◌≡◌, ℕ, ◌<◌, length, pos, Some, None, MatchOption, MatchResult, slice_index_or};
 ghost use Rattle.checker.specs.Progress.{Ready, Moved, places, judged};
 ghost use Rattle.checker.specs.Work.{SetAt, Route, Done, Rooted};

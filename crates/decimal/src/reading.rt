@@ -72,6 +72,7 @@ pub fn read(text: &[u8]) -> Result<i32, NumberError>
 }
 
 // The number spelled; its text reads as the number.
+// Stays: a function of its own, since that a number is read back is proved from its clause.
 fn spelled(z: i32) -> Numeral
     ensures { read_as (text_of result) ≡ Ok z }
 {

@@ -14,7 +14,7 @@ use isa::Opcode;
 use program::MachineCause;
 
 impl<'a> Processor<'a> {
-    // Stays: one match over a closed enum, a line an opcode; no table of functions or closures may be handed out.
+    // Stays: one match over a closed enum, a line an opcode; a table of closures would name each opcode too.
     fn execute(
         &mut self,
         layout: Layout,
@@ -102,6 +102,7 @@ pub fn execute(
 }
 
 // Pushes x where there is room for it.
+// Stays: `push` writes so too, but tests for room; put can't fail, since its caller has tested.
 pub fn put(x: i32, r: &mut Registers, memory: &mut [i32])
     requires { (Sound r.old (length memory.old)) × (r.old.limit + 1 ≤ r.old.sp) }
     ensures after { core r.new memory.new ≡ pushed x (core r.old memory.old) }

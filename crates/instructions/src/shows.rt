@@ -8,6 +8,7 @@ use crate::processor::Processor;
 use program::MachineCause;
 
 impl<'a> Processor<'a> {
+    // Stays: each is one line of the definitions; what two share is in cells, holds, room and take.
     pub(crate) fn show_flag(&mut self) -> Result<Effect, MachineCause>
         ensures { Does flags self.old self.new result }
     {

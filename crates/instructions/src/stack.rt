@@ -12,7 +12,7 @@ use arithmetic::{Binary, Unary};
 use program::MachineCause;
 
 impl<'a> Processor<'a> {
-    // Stays: a closure in place of the enum needs a ghost value at each call for what it computes; `binary` says it once.
+    // Stays: a closure in place of the enum needs a ghost value at each call for what it computes.
     pub(crate) fn join(&mut self, op: Binary) -> Result<Effect, MachineCause>
         ensures { Does (joins (binary op)) self.old self.new result }
     {
@@ -61,6 +61,7 @@ impl<'a> Processor<'a> {
         Ok(Effect::Done)
     }
 
+    // Stays: each is one line of the definitions; what two share is in cells, holds, room and take.
     pub(crate) fn reserve(&mut self, count: i32) -> Result<Effect, MachineCause>
         ensures { Does (reserves count) self.old self.new result }
     {

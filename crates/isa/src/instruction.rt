@@ -6,7 +6,7 @@ use crate::opcode::{Opcode, Operand};
 use crate::table::{argument_cells, decode, operand_of};
 
 // An instruction of a program: its opcode, and its argument cell, or 0 where it has none.
-// Stays: a number for no argument, since the promise of each instruction, and each step, names that cell as 0.
+// Stays: 0 for no argument, since `argument` in specs/ gives it and `exec` takes a number for each opcode.
 #[derive(Clone, Copy)]
 pub struct Instruction {
     pub op: Opcode,

@@ -1,123 +1,69 @@
 // Opcodes by number and by mnemonic, and what each takes.
-ghost use Rattle.isa.specs.Table.{operand_cells, decoded, number, operand, size, named, nth, order};
+ghost use Rattle.isa.specs.Table.{operand_cells, decoded, number, operand, size, named, nth};
 ghost use Rattle.program.specs.Names.{same, smalls};
-ghost use Rattle.std.specs.Prelude.{◌≡◌, ℤ, pos, Some, None, MatchResult, position};
+ghost use Rattle.std.specs.Prelude.{◌≡◌, ℤ, pos, Some, None, MatchResult, map};
 
 use crate::opcode::{NoOpcode, Opcode, Operand};
 use program::is_word;
 
-// The mnemonics, in the order of the opcodes.
-// Stays: two arrays: with one of pairs, which proved, a step of perf/prints.casm took 9.5 ns of user time, not 9.2.
-static MNEMONICS: [&[u8]; 49] = [
-    b"push",
-    b"add",
-    b"sub",
-    b"mul",
-    b"div",
-    b"mod",
-    b"neg",
-    b"and",
-    b"or",
-    b"not",
-    b"eq",
-    b"ne",
-    b"lt",
-    b"gt",
-    b"le",
-    b"ge",
-    b"dup",
-    b"pop",
-    b"swap",
-    b"jump",
-    b"bf",
-    b"bt",
-    b"nop",
-    b"read",
-    b"bprint",
-    b"cprint",
-    b"iprint",
-    b"sprint",
-    b"prnln",
-    b"load",
-    b"store",
-    b"loadref",
-    b"storeref",
-    b"deref",
-    b"call",
-    b"loadfp",
-    b"loadsp",
-    b"storefp",
-    b"rmem",
-    b"fmem",
-    b"ret",
-    b"halt",
-    b"loadpc",
-    b"storepc",
-    b"storesp",
-    b"loadhp",
-    b"storehp",
-    b"loadhl",
-    b"storehl",
+// Each mnemonic with its opcode, by number from 1 on.
+static TABLE: [(&[u8], Opcode); 49] = [
+    (b"push", Opcode::Push),
+    (b"add", Opcode::Add),
+    (b"sub", Opcode::Sub),
+    (b"mul", Opcode::Mul),
+    (b"div", Opcode::Div),
+    (b"mod", Opcode::Mod),
+    (b"neg", Opcode::Neg),
+    (b"and", Opcode::And),
+    (b"or", Opcode::Or),
+    (b"not", Opcode::Not),
+    (b"eq", Opcode::Eq),
+    (b"ne", Opcode::Ne),
+    (b"lt", Opcode::Lt),
+    (b"gt", Opcode::Gt),
+    (b"le", Opcode::Le),
+    (b"ge", Opcode::Ge),
+    (b"dup", Opcode::Dup),
+    (b"pop", Opcode::Pop),
+    (b"swap", Opcode::Swap),
+    (b"jump", Opcode::Jump),
+    (b"bf", Opcode::Bf),
+    (b"bt", Opcode::Bt),
+    (b"nop", Opcode::Nop),
+    (b"read", Opcode::Read),
+    (b"bprint", Opcode::Bprint),
+    (b"cprint", Opcode::Cprint),
+    (b"iprint", Opcode::Iprint),
+    (b"sprint", Opcode::Sprint),
+    (b"prnln", Opcode::Prnln),
+    (b"load", Opcode::Load),
+    (b"store", Opcode::Store),
+    (b"loadref", Opcode::Loadref),
+    (b"storeref", Opcode::Storeref),
+    (b"deref", Opcode::Deref),
+    (b"call", Opcode::Call),
+    (b"loadfp", Opcode::Loadfp),
+    (b"loadsp", Opcode::Loadsp),
+    (b"storefp", Opcode::Storefp),
+    (b"rmem", Opcode::Rmem),
+    (b"fmem", Opcode::Fmem),
+    (b"ret", Opcode::Ret),
+    (b"halt", Opcode::Halt),
+    (b"loadpc", Opcode::Loadpc),
+    (b"storepc", Opcode::Storepc),
+    (b"storesp", Opcode::Storesp),
+    (b"loadhp", Opcode::Loadhp),
+    (b"storehp", Opcode::Storehp),
+    (b"loadhl", Opcode::Loadhl),
+    (b"storehl", Opcode::Storehl),
 ];
 
-// The opcodes by number, from 1 on.
-static OPCODES: [Opcode; 49] = [
-    Opcode::Push,
-    Opcode::Add,
-    Opcode::Sub,
-    Opcode::Mul,
-    Opcode::Div,
-    Opcode::Mod,
-    Opcode::Neg,
-    Opcode::And,
-    Opcode::Or,
-    Opcode::Not,
-    Opcode::Eq,
-    Opcode::Ne,
-    Opcode::Lt,
-    Opcode::Gt,
-    Opcode::Le,
-    Opcode::Ge,
-    Opcode::Dup,
-    Opcode::Pop,
-    Opcode::Swap,
-    Opcode::Jump,
-    Opcode::Bf,
-    Opcode::Bt,
-    Opcode::Nop,
-    Opcode::Read,
-    Opcode::Bprint,
-    Opcode::Cprint,
-    Opcode::Iprint,
-    Opcode::Sprint,
-    Opcode::Prnln,
-    Opcode::Load,
-    Opcode::Store,
-    Opcode::Loadref,
-    Opcode::Storeref,
-    Opcode::Deref,
-    Opcode::Call,
-    Opcode::Loadfp,
-    Opcode::Loadsp,
-    Opcode::Storefp,
-    Opcode::Rmem,
-    Opcode::Fmem,
-    Opcode::Ret,
-    Opcode::Halt,
-    Opcode::Loadpc,
-    Opcode::Storepc,
-    Opcode::Storesp,
-    Opcode::Loadhp,
-    Opcode::Storehp,
-    Opcode::Loadhl,
-    Opcode::Storehl,
-];
-
-// The opcode at a place of the table, counted from 0.
-fn opcode_at(place: usize) -> Option<Opcode>
-    ensures { result ≡ nth order place }
+// The opcode of the row at a place, counted from 0.
+fn opcode_at(rows: &[(&[u8], Opcode)], place: usize) -> Option<Opcode>
+    ensures { result ≡ nth (map (λ row. row.1) rows.now) place }
 {
-    OPCODES.get(place).copied()
+    rows.get(place).map(|row| row.1)
 }
 
 impl From<Opcode> for i32 {
@@ -137,8 +83,8 @@ impl TryFrom<i32> for Opcode {
         if cell < 1 {
             return Err(NoOpcode);
         }
-        // Stays: a cast, as each step of a machine decodes so, and `try_from` would test the sign again.
-        opcode_at(cell as usize - 1).ok_or(NoOpcode)
+        // Stays: a cast; after it one test is left, where try_from and checked_sub make two in each step of a run.
+        opcode_at(&TABLE, cell as usize - 1).ok_or(NoOpcode)
     }
 }
 
@@ -185,16 +131,12 @@ pub fn length_of(op: Opcode) -> usize
     1 + argument_cells(operand_of(op))
 }
 
-// The place of a word, in small letters, among names.
-fn place_in(names: &[&[u8]], word: &[u8]) -> Option<usize>
-    ensures { result ≡ position (λ name. same (smalls word.now) name.now) names.now }
-{
-    names.iter().position(|name| is_word(word, name))
-}
-
 // The opcode of a mnemonic, whose letters may be capitals.
 pub fn opcode_named(word: &[u8]) -> Option<Opcode>
     ensures { result ≡ named (smalls word.now) }
 {
-    place_in(&MNEMONICS, word).and_then(opcode_at)
+    TABLE
+        .iter()
+        .find(|row| is_word(word, row.0))
+        .map(|row| row.1)
 }

@@ -15,7 +15,7 @@ use program::{Fault, Place};
 
 // Does what an instruction asks of the port, and then moves the registers on to next.
 // Stays: registers and memory apart; a Processor has one set, and the old set stays until the port has answered.
-// Stays: `sound` and `openings` are clauses here, of `step` and of `run_live`; a struct of both would hold the port too.
+// Stays: `sound` and `openings` are clauses of settle, step and run_live; a struct of both would hold the port.
 fn settle<P: Port>(
     effect: Effect,
     next: Registers,
@@ -51,6 +51,7 @@ fn settle<P: Port>(
 
 // One step: the instruction at pc, and what the port gives or takes for it. An outcome ends the run: the step was
 // HALT, or nothing was done.
+// Stays: layout, registers and memory apart here too, since settle has two sets of registers.
 #[tactic(auto, using(crate::proofs::Stepping::answered_held), unfolding(crate::specs::Step::step))]
 pub(crate) fn step<P: Port>(
     layout: Layout,

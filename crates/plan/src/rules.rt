@@ -1,5 +1,5 @@
 // The rules, as docs/CHECK.md lists them.
-// Stays: an address is a u32 and becomes an index by `as usize`, since no usize is From a u32.
+// Stays: an address is a u32: as usize only widens it, where try_from would need an unwrap at each use.
 ghost use Rattle.std.specs.Prelude.{◌≡◌, ◌-◌, ◌<◌, ◌≤◌, Some, Ok, Err, Decides};
 ghost use Rattle.isa.specs.declared.opcode.Opcode.TheVariants.{Call};
 ghost use Rattle.plan.specs.Kinds.{table, count, kind};
@@ -88,6 +88,7 @@ fn address_after(address: u32, i: Instruction) -> i64
 }
 
 // The next instruction follows, if the cells that are used are there.
+// Stays: address, depth and i are a place and its instruction; a struct of them would be made for one call.
 fn onto(address: u32, depth: u16, i: Instruction) -> Result<Next, CheckCause>
     ensures { Ontoed address depth i result }
 {

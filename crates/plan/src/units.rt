@@ -1,5 +1,5 @@
 // The units of a program, by their entries and by their bodies.
-// Stays: an address is a u32 and becomes an index by `as usize`, since no usize is From a u32.
+// Stays: an address is a u32: as usize only widens it, where try_from would need an unwrap at each use.
 ghost use Rattle.std.specs.Prelude.{◌≡◌, ℕ, suc, ℤ, pos, Some, Decides, MatchOption, ◌≢◌};
 ghost use Rattle.isa.specs.Code.{instruction};
 ghost use Rattle.isa.specs.declared.opcode.Opcode.TheVariants.{Ret};

@@ -27,6 +27,7 @@ pub enum Argument<'a> {
 // Names, numbers and lists borrow their bytes from the line.
 #[derive(Clone, Copy)]
 pub enum Statement<'a> {
+    // Stays: a blank line is a statement that does nothing, not the lack of one.
     Empty,
     Enter(Section),
     Unit(&'a [u8], &'a [u8], &'a [u8]),
@@ -55,7 +56,7 @@ impl From<LineFault> for AssemblyCause {
     }
 }
 
-// Stays: each reader answers what it read and the rest, as a rule of the project asks of the token reader.
+// Stays: each reader hands on the rest, as next_token does; methods of Tokens would promise by what is left in it.
 // Stays: take_name, take_number and take_value are one match each; one reader with a closure would keep all three.
 fn take_name<'a>(line: &'a [u8]) -> Option<(&'a [u8], &'a [u8])>
     ensures { MatchOption result ((k : List ℕ → List Tok → Form) → then_name (tokens line.now) k ≡ unfit) (λ p. (k : List ℕ → List Tok → Form) → then_name (tokens line.now) k ≡ k (smalls p.0.now) (tokens p.1.now)) }

@@ -96,6 +96,7 @@ fn token_at<'a>(line: &'a [u8]) -> (Token<'a>, &'a [u8])
 }
 
 // The token after the blanks; none at the line's end or a comment.
+// Stays: a function of its own, since the second clause of next_token is proved from this one.
 fn first_token<'a>(line: &'a [u8]) -> Option<(Token<'a>, &'a [u8])>
     ensures { MatchOption result (next_read line.now ≡ None) (λ p. next_read line.now ≡ Some (read (meant p.0) p.1.now)) }
 {

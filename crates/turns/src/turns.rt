@@ -3,6 +3,7 @@ ghost use Rattle.std.specs.Prelude.{◌≡◌};
 use machine::{Outcome, Report};
 
 // The steps of all turns, and why the last one ended.
+// Stays: beside Report, since the steps of two turns need more than its 32 bits.
 #[derive(Clone, Copy, PartialEq, Eq)]
 pub struct Turns {
     pub steps: u64,
