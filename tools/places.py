@@ -95,6 +95,8 @@ def main():
         funcs = functions(lines)
         for at, line in enumerate(lines):
             for point, pattern in LINES.items():
+                if re.match(r"\s*//", line) and not point.startswith("1a"):
+                    continue
                 if re.search(pattern, line):
                     places[point].append((path, at, *around(lines, funcs, at), line.strip()))
             after = lines[at + 1].strip() if at + 1 < len(lines) else ""
