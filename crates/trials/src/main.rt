@@ -10,6 +10,8 @@ mod reports;
 mod runs;
 mod sizes;
 mod sums;
+#[cfg(test)]
+mod tests;
 
 use crate::assemblies::{TEXTS, text_answer};
 use crate::examples::{EXAMPLES, example_answer};
