@@ -15,6 +15,7 @@ use program::MachineCause;
 
 impl<'a> Processor<'a> {
     // Stays: one match over a closed enum, a line an opcode; a table of closures would name each opcode too.
+    #[inline(always)]
     fn execute(
         &mut self,
         layout: Layout,
@@ -79,6 +80,8 @@ impl<'a> Processor<'a> {
 }
 
 // Does an instruction at an address with its argument cell, but for what it asks of the port; pc stands past it.
+// Inlined into each run: out of line, the copy of the registers into a processor and back costs a quarter of a step.
+#[inline(always)]
 pub fn execute(
     layout: Layout,
     at: i32,

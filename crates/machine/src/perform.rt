@@ -9,6 +9,9 @@ use instructions::{Effect, Layout, Registers, execute};
 use program::MachineCause;
 
 // Does the instruction at pc, but for what it asks of the port.
+// Inlined into each run, as `execute` is: over two kinds of ports there are two, and out of line a step takes twice as
+// long.
+#[inline(always)]
 #[tactic(auto, unfolding(crate::specs::Step::performed))]
 pub(crate) fn perform(
     layout: Layout,
